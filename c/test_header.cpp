@@ -1,0 +1,9 @@
+// telescope.h from C++: it compiles, and the names link as C names.
+#include "telescope.h"
+
+int main() {
+    const uint8_t h[ALBA_HASH_BYTES] = {};
+    uint8_t out[ALBA_DRAW_BYTES];
+    const bool drawn = alba_sample_uniform(h, sizeof h, 10, out, sizeof out) == ALBA_DRAWN && out[ALBA_DRAW_BYTES - 1] == 0;
+    return drawn && alba_sample_bernoulli(h, sizeof h, 0.5) == ALBA_YES ? 0 : 1;
+}

@@ -1,0 +1,2 @@
+-- The laws that the proofs of `harness_exports` share.
+mod Answer

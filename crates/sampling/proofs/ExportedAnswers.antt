@@ -1,0 +1,55 @@
+-- The exported calls' answers, by the tests that they make.
+use mathlib.Core.Path.{_≡_, refl, ap, _∙_}
+use mathlib.Core.List.{List}
+use Prim.Native.Nat.{ℕ, zero, suc}
+use native.Mathlib.Omega.{arith}
+use borrow.Author.Tests.{eq-eqb, ne-eqb}
+use lib.ListN.{length}
+use lib.Ieee.{Float}
+use Rattle.sampling.specs.BigEndian.{bytesOf}
+use Rattle.sampling.specs.Sample.{uniform, bernoulli}
+use Rattle.sampling.specs.Exports.{withLent, exportedUniform, exportedBernoulli}
+
+-- ---- the draw
+
+module _ (h : List ℕ) (n : ℕ) (out : List ℕ) where
+  pub n-refused : n ≡ 0 → (7, out) ≡ exportedUniform h n out
+  unfolding exportedUniform
+  n-refused e = rw (eq-eqb n 0 e)
+
+  module _ (N : n ≡ 0 → ⊥) where
+    pub h-refused : (length h ≡ 16 → ⊥) → (8, out) ≡ exportedUniform h n out
+    unfolding exportedUniform
+    h-refused L = rw (ne-eqb n 0 N, ne-eqb (length h) 16 L)
+
+    module _ (L : length h ≡ 16) where
+      pub out-refused : (length out ≡ 8 → ⊥) → (8, out) ≡ exportedUniform h n out
+      unfolding exportedUniform
+      out-refused O = rw (ne-eqb n 0 N, eq-eqb (length h) 16 L, ne-eqb (length out) 8 O)
+
+      -- k and v: the number and the value of the draw's answer
+      pub drawn : length out ≡ 8 → (a : ℕ × ℕ) → a ≡ uniform h n → (k v : ℕ) → k ≡ a .0 → v ≡ a .1 → withLent k v out ≡ exportedUniform h n out
+      unfolding exportedUniform
+      drawn O a e k v K W = rw (K, W, e, ne-eqb n 0 N, eq-eqb (length h) 16 L, eq-eqb (length out) 8 O)
+
+-- a value's bytes take the place of the lent ones; no other answer touches them
+pub value-written : (k v : ℕ) (out after : List ℕ) → k ≡ 0 → length out ≡ 8 → after ≡ bytesOf (length out) v → (k, after) ≡ withLent k v out
+unfolding withLent
+value-written zero v out after z l e = ap (λ (b : List ℕ). (0, b)) (e ∙ ap (λ (n : ℕ). bytesOf n v) l)
+value-written (suc k) v out after z l e = absurd (omega arith)
+
+pub none-touched : (k v : ℕ) (out : List ℕ) → (k ≡ 0 → ⊥) → (k, out) ≡ withLent k v out
+unfolding withLent
+none-touched zero v out z = absurd (z refl)
+none-touched (suc k) v out z = refl
+
+-- ---- the draw with a probability
+
+module _ (h : List ℕ) (q : Float) where
+  pub chance-h-refused : (length h ≡ 16 → ⊥) → 8 ≡ exportedBernoulli h q
+  unfolding exportedBernoulli
+  chance-h-refused L = rw (ne-eqb (length h) 16 L)
+
+  pub chance-told : length h ≡ 16 → bernoulli h q ≡ exportedBernoulli h q
+  unfolding exportedBernoulli
+  chance-told L = rw (eq-eqb (length h) 16 L)

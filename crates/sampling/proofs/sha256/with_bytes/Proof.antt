@@ -1,0 +1,26 @@
+-- `with_bytes`: the copy, in the part of the block that starts at `at`.
+use native.Mathlib.Omega.{arith}
+use borrow.Author.Needs.{needs}
+use Rattle.sampling.proofs.Written.{copied-in}
+use Rattle.sampling.proofs.sha256.with_bytes.Statement.{statement}
+use Rattle.sampling.proofs.sha256.with_bytes.Tie as tie
+
+sub-copy : tie.Need-sub-copy
+sub-copy c = search needs
+
+part-out-start : tie.Need-part-out-start
+part-out-start c = search needs
+
+part-out-end : tie.Need-part-out-end
+part-out-end c = search needs
+
+copy-requires : tie.Need-copy-requires
+copy-requires c κs = search needs
+
+returns : tie.Need-returns
+returns c =
+    let z = c .before .before .before .before .args in
+    copied-in (z .block) (z .s .now) _ _ _ (z .at) (omega arith) (c .before .copy .ensures .1)
+
+pub with-bytes-spec : {M : Type 1} → statement M
+with-bytes-spec = tie.close (tie.spec sub-copy part-out-start part-out-end copy-requires returns)

@@ -1,0 +1,12 @@
+-- The definitions that the contracts of `sampling` cite, and laws about them.
+pub mod BigEndian
+pub mod BigEndianLaws
+pub mod Fips180
+pub mod Hash
+pub mod HashLaws
+pub mod FipsExamples
+pub mod Hasher
+pub mod Sample
+pub mod SampleLaws
+pub mod Exports
+pub mod Cases

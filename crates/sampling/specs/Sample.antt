@@ -1,0 +1,75 @@
+-- The sampler of document 01, in its order: what the contracts of `sample` cite.
+use mathlib.Core.Bool.{Bool, false, cond, _||_}
+use mathlib.Core.List.{List}
+use Prim.Native.Nat.{ℕ, zero, suc, _+_, _-_, _*_, _/_, _%_, _^_, min}
+use lib.IntN.{ℤ, pos}
+use lib.Dec.{leb, ltb, eqb}
+use lib.Ieee.{Float, nan, inf, fin, up, down, lt, isNan}
+use Rattle.sampling.specs.BigEndian.{bigEndian}
+use Rattle.sampling.specs.declared.sample.Words.{Words}
+use Rattle.sampling.specs.declared.sample.Draw.{Draw}
+use Rattle.sampling.specs.declared.sample.Chance.{Chance}
+use Rattle.sampling.specs.declared.sample.Threshold.{Threshold}
+use Rattle.sampling.specs.declared.sample.Draw.the-variants as draw
+use Rattle.sampling.specs.declared.sample.Chance.the-variants as chance
+use Rattle.sampling.specs.declared.sample.Threshold.the-variants as at
+
+-- 01, Sampler, "a power of two": n is one of 2 ^ 0, .. 2 ^ (k - 1)
+unfoldable pub isPower : ℕ → ℕ → Bool
+isPower zero n = false
+isPower (suc k) n = eqb n (2 ^ k) || isPower k n
+
+-- 01, Sampler, "D = floor((2^128 − 1) / n)"
+abbrev pub D : ℕ → ℕ
+D n = (2 ^ 128 - 1) / n
+
+-- 01, Sampler, "no draw if i ≥ D × n, otherwise i mod n": 1 and 0, or 0 and the value
+unfoldable pub modNotPower : ℕ → ℕ → ℕ × ℕ
+modNotPower i n = cond (leb (D n * n) i) (1, 0) (0, i % n)
+
+-- 01, Sampler, `sample_uniform`, as a number and a value. 0: the value drawn; 1: no draw; 7: refused, n is 0
+unfoldable pub uniform : List ℕ → ℕ → ℕ × ℕ
+uniform h n = cond (eqb n 0) (7, 0) (cond (isPower 64 n) (0, bigEndian 8 h % n) (modNotPower (bigEndian 16 h) n))
+
+-- 01's number and value for each answer of a uniform draw
+abbrev pub drawNumber : Draw → ℕ × ℕ
+drawNumber (draw.Value v) = (0, v)
+drawNumber draw.NoDraw = (1, 0)
+drawNumber draw.Refused = (7, 0)
+
+-- 01, Lent and given back, refusal 3: "q below 0, above 1 or NaN". Negative zero is not below 0
+unfoldable pub outsideUnit : Float → Bool
+outsideUnit q = isNan q || (lt q (fin false 0 (pos 0)) || lt (fin false 1 (pos 0)) q)
+
+-- 01, Sampler, "floor(q × 2^128) .., q being the double's exact amount": m * 2 ^ e, with 2 ^ e as up e / down e
+abbrev pub floorOf : ℕ → ℤ → ℕ
+floorOf m e = m * up e * 2 ^ 128 / down e
+
+-- 01, Sampler, X: "the smaller of floor(q × 2^128) and 2^128 − 1". Where q is refused, X is not asked for
+unfoldable pub threshold : Float → ℕ
+threshold nan = 0
+threshold (inf s) = 2 ^ 128 - 1
+threshold (fin s m e) = min (floorOf m e) (2 ^ 128 - 1)
+
+-- X with the refusal, as a number and X. 0: X; 3: refused
+unfoldable pub thresholdOrRefusal : Float → ℕ × ℕ
+thresholdOrRefusal q = cond (outsideUnit q) (3, 0) (0, threshold q)
+
+-- 01, Vec, Digest and u128 in this source: "u128 becomes two u64 words"
+abbrev pub valueOf : Words → ℕ
+valueOf w = w .hi * 2 ^ 64 + w .lo
+
+-- 01's number and X for each answer of `threshold_of`
+abbrev pub thresholdNumber : Threshold → ℕ × ℕ
+thresholdNumber (at.At w) = (0, valueOf w)
+thresholdNumber at.Refused = (3, 0)
+
+-- 01, Sampler, `sample_bernoulli`: "yes exactly when i < X". 1: yes; 0: no; 3: refused
+unfoldable pub bernoulli : List ℕ → Float → ℕ
+bernoulli h q = cond (outsideUnit q) 3 (cond (ltb (bigEndian 16 h) (threshold q)) 1 0)
+
+-- 01's number for each answer of a draw with a probability
+abbrev pub chanceNumber : Chance → ℕ
+chanceNumber chance.Yes = 1
+chanceNumber chance.No = 0
+chanceNumber chance.Refused = 3

@@ -1,0 +1,163 @@
+-- Laws of the sampler's definitions. A caller that cites these opens none of the definitions.
+use mathlib.Core.Path.{_≡_, refl, sym, ap, _∙_, subst}
+use mathlib.Core.Bool.{Bool, true, false, cond, _||_}
+use mathlib.Core.List.{List}
+use mathlib.Core.Logic.{_⊎_, inl, inr}
+use Prim.Native.Nat.{ℕ, zero, suc, _-_, _*_, _%_, _^_, _≤_, _<_}
+use native.Mathlib.Nat.{eq-or-lt-of-le, eq-zero-or-pos, mod-lt, mod-one, min-le-right, lt-of-le-of-lt}
+use native.Mathlib.Omega.{arith}
+use borrow.Author.Tests.{eq-eqb, ne-eqb, eqb-true, lt-ltb, le-ltb, ltb-true}
+use lib.Dec.{T, leb, ltb, eqb, lit<}
+use lib.Ieee.{Float, nan, inf, fin, binary64, ofBits, isNan, lt}
+use Rattle.sampling.specs.BigEndian.{bigEndian}
+use Rattle.sampling.specs.Sample.{isPower, D, modNotPower, uniform, outsideUnit, floorOf, threshold, thresholdOrRefusal, bernoulli}
+
+-- ---- powers of two: the test says yes exactly at 2 ^ 0, .. 2 ^ (k - 1)
+
+pub power-is : (k j n : ℕ) → j < k → n ≡ 2 ^ j → isPower k n ≡ true
+unfolding isPower
+power-is zero j n h e = absurd (omega arith)
+power-is (suc k) j n h e = elim (eq-or-lt-of-le {n = j} {m = k} (omega arith)) [
+  | inl s ↦ ap (λ (t : Bool). t || isPower k n) (eq-eqb n (2 ^ k) (e ∙ ap (λ (i : ℕ). 2 ^ i) s))
+  | inr g ↦ or-true (eqb n (2 ^ k)) (power-is k j n g e)
+]
+  where
+    or-true : (t : Bool) {u : Bool} → u ≡ true → t || u ≡ true
+    or-true true h = refl
+    or-true false h = h
+
+pub power-of : (k n : ℕ) → isPower k n ≡ true → (j : ℕ) × (j < k) × (n ≡ 2 ^ j)
+unfolding isPower
+power-of zero n h = absurd (subst T (sym h) tt)
+power-of (suc k) n h = go (eqb n (2 ^ k)) refl h (power-of k n)
+  where
+    go : (t : Bool) → eqb n (2 ^ k) ≡ t → t || isPower k n ≡ true → (isPower k n ≡ true → (j : ℕ) × (j < k) × (n ≡ 2 ^ j))
+        → (j : ℕ) × (j < suc k) × (n ≡ 2 ^ j)
+    go true e g lower = (k, omega arith, eqb-true n (2 ^ k) e)
+    go false e g lower = let r = lower g in (r .0, omega (arith, r .1), r .2)
+
+-- ---- the uniform draw
+
+-- outside the powers of two: no draw, or the remainder
+mod-not-power-cases : (i n : ℕ) → (modNotPower i n ≡ (1, 0)) ⊎ (modNotPower i n ≡ (0, i % n))
+unfolding modNotPower
+mod-not-power-cases i n = go (leb (D n * n) i)
+  where
+    go : (t : Bool) → (_≡_ {A = ℕ × ℕ} (cond t (1, 0) (0, i % n)) (1, 0)) ⊎ (_≡_ {A = ℕ × ℕ} (cond t (1, 0) (0, i % n)) (0, i % n))
+    go true = inl refl
+    go false = inr refl
+
+module _ (h : List ℕ) (n : ℕ) where
+  pub refused-at-zero : n ≡ 0 → uniform h n ≡ (7, 0)
+  unfolding uniform
+  refused-at-zero e = rw (eq-eqb n 0 e)
+
+  module _ (N : 0 < n) where
+    not-zero : eqb n 0 ≡ false
+    not-zero = ne-eqb n 0 (λ e. omega arith)
+
+    -- a power of two, and any other n
+    pub at-a-power : isPower 64 n ≡ true → uniform h n ≡ (0, bigEndian 8 h % n)
+    unfolding uniform
+    at-a-power p = rw (not-zero, p)
+
+    pub not-at-a-power : isPower 64 n ≡ false → uniform h n ≡ modNotPower (bigEndian 16 h) n
+    unfolding uniform
+    not-at-a-power p = rw (not-zero, p)
+
+    -- no draw, or a value below n: nothing but n = 0 is refused
+    pub none-or-below : (uniform h n ≡ (1, 0)) ⊎ ((v : ℕ) × (uniform h n ≡ (0, v)) × (v < n))
+    none-or-below = go (isPower 64 n) refl
+      where
+        go : (t : Bool) → isPower 64 n ≡ t → (uniform h n ≡ (1, 0)) ⊎ ((v : ℕ) × (uniform h n ≡ (0, v)) × (v < n))
+        go true p = inr (bigEndian 8 h % n, at-a-power p, mod-lt (bigEndian 8 h) N)
+        go false p = elim (mod-not-power-cases (bigEndian 16 h) n) [
+          | inl e ↦ inl (not-at-a-power p ∙ e)
+          | inr e ↦ inr (bigEndian 16 h % n, not-at-a-power p ∙ e, mod-lt (bigEndian 16 h) N)
+        ]
+
+  -- what is drawn is below n
+  pub drawn-below : (v : ℕ) → uniform h n ≡ (0, v) → v < n
+  drawn-below v e = elim (eq-zero-or-pos n) [
+    | inl z ↦ absurd (let s = ap (λ (a : ℕ × ℕ). a .0) (sym (refused-at-zero z) ∙ e) in omega arith)
+    | inr N ↦
+        elim (none-or-below N) [
+          | inl o ↦ absurd (let s = ap (λ (a : ℕ × ℕ). a .0) (sym o ∙ e) in omega arith)
+          | inr w ↦ subst (λ (k : ℕ). k < n) (ap (λ (a : ℕ × ℕ). a .1) (sym (w .1) ∙ e)) (w .2)
+        ]
+  ]
+
+  -- a refusal is of n = 0
+  pub zero-when-refused : uniform h n .0 ≡ 7 → n ≡ 0
+  zero-when-refused r = elim (eq-zero-or-pos n) [
+    | inl z ↦ z
+    | inr N ↦
+        elim (none-or-below N) [
+          | inl o ↦ absurd (let s = ap (λ (a : ℕ × ℕ). a .0) o in omega arith)
+          | inr w ↦ absurd (let s = ap (λ (a : ℕ × ℕ). a .0) (w .1) in omega arith)
+        ]
+  ]
+
+-- case b, for all bytes
+pub drawn-of-one : (h : List ℕ) → uniform h 1 ≡ (0, 0)
+drawn-of-one h = at-a-power h 1 (omega arith) (power-is 64 0 1 (omega arith) refl) ∙ ap (λ (v : ℕ). (0, v)) (mod-one (bigEndian 8 h))
+
+-- ---- the draw with a probability
+
+pub threshold-below : (q : Float) → threshold q < 2 ^ 128
+unfolding threshold
+threshold-below nan = lit< tt
+threshold-below (inf s) = lit< tt
+threshold-below (fin s m e) = lt-of-le-of-lt (min-le-right (floorOf m e) (2 ^ 128 - 1)) (lit< tt)
+
+-- "Negative zero is zero"
+pub negative-zero : thresholdOrRefusal (ofBits binary64 (2 ^ 63)) ≡ (0, 0)
+unfolding ofBits isNan lt outsideUnit threshold thresholdOrRefusal
+negative-zero = refl
+
+-- the threshold and its refusal, by the test on q
+pub threshold-refused : (q : Float) → outsideUnit q ≡ true → thresholdOrRefusal q ≡ (3, 0)
+unfolding thresholdOrRefusal
+threshold-refused q o = rw o
+
+pub threshold-at : (q : Float) → outsideUnit q ≡ false → thresholdOrRefusal q ≡ (0, threshold q)
+unfolding thresholdOrRefusal
+threshold-at q o = rw o
+
+pub bernoulli-refused : (h : List ℕ) (q : Float) → outsideUnit q ≡ true → bernoulli h q ≡ 3
+unfolding bernoulli
+bernoulli-refused h q o = rw o
+
+pub bernoulli-is : (h : List ℕ) (q : Float) → outsideUnit q ≡ false → bernoulli h q ≡ cond (ltb (bigEndian 16 h) (threshold q)) 1 0
+unfolding bernoulli
+bernoulli-is h q o = rw o
+
+-- a q that is not refused: yes exactly when i < X
+module _ (h : List ℕ) (q : Float) (o : outsideUnit q ≡ false) where
+  pub yes-when-below : bigEndian 16 h < threshold q → bernoulli h q ≡ 1
+  yes-when-below l = bernoulli-is h q o ∙ ap (λ (t : Bool). cond t 1 0) (lt-ltb _ _ l)
+
+  pub no-when-not-below : threshold q ≤ bigEndian 16 h → bernoulli h q ≡ 0
+  no-when-not-below l = bernoulli-is h q o ∙ ap (λ (t : Bool). cond t 1 0) (le-ltb _ _ l)
+
+  pub below-when-yes : bernoulli h q ≡ 1 → bigEndian 16 h < threshold q
+  below-when-yes y = go (ltb (bigEndian 16 h) (threshold q)) refl (sym (bernoulli-is h q o) ∙ y)
+    where
+      go : (t : Bool) → ltb (bigEndian 16 h) (threshold q) ≡ t → _≡_ {A = ℕ} (cond t 1 0) 1 → bigEndian 16 h < threshold q
+      go true e y = ltb-true _ _ e
+      go false e y = absurd (omega arith)
+
+-- where `thresholdOrRefusal` gives X, the answer is by i < X; where it refuses, it is the refusal
+pub bernoulli-at : (h : List ℕ) (q : Float) (x : ℕ) → thresholdOrRefusal q ≡ (0, x) → bernoulli h q ≡ cond (ltb (bigEndian 16 h) x) 1 0
+bernoulli-at h q x e = go (outsideUnit q) refl
+  where
+    go : (t : Bool) → outsideUnit q ≡ t → bernoulli h q ≡ cond (ltb (bigEndian 16 h) x) 1 0
+    go true o = absurd (let s = ap (λ (a : ℕ × ℕ). a .0) (sym (threshold-refused q o) ∙ e) in omega arith)
+    go false o = bernoulli-is h q o ∙ ap (λ (k : ℕ). cond (ltb (bigEndian 16 h) k) 1 0) (ap (λ (a : ℕ × ℕ). a .1) (sym (threshold-at q o) ∙ e))
+
+pub bernoulli-not : (h : List ℕ) (q : Float) → thresholdOrRefusal q ≡ (3, 0) → bernoulli h q ≡ 3
+bernoulli-not h q e = go (outsideUnit q) refl
+  where
+    go : (t : Bool) → outsideUnit q ≡ t → bernoulli h q ≡ 3
+    go true o = bernoulli-refused h q o
+    go false o = absurd (let s = ap (λ (a : ℕ × ℕ). a .0) (sym (threshold-at q o) ∙ e) in omega arith)

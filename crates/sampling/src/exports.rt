@@ -1,0 +1,88 @@
+// The sampler as C and Rust call it: h and the draw's bytes are lent slices, and the answer is a number.
+
+ghost use mathlib.Core.Path.{_≡_};
+ghost use lib.ListN.{length};
+ghost use Rattle.sampling.specs.Sample.{drawNumber, chanceNumber};
+ghost use Rattle.sampling.specs.Exports.{exportedUniform, exportedBernoulli};
+use crate::big_endian;
+use crate::sample::Chance;
+use crate::sample::Draw;
+use crate::sample::sample_bernoulli;
+use crate::sample::sample_uniform;
+
+// The 16 bytes lent, by value.
+fn seed_of(h: &[u8]) -> [u8; 16]
+    requires { ⌜ length (now h) ≡ 16 ⌝ }
+    ensures { λ r. ⌜ r ≡ now (h .entry) ⌝ }
+{
+    let mut seed = [0u8; 16];
+    bytes::copy(h, &mut seed);
+    seed
+}
+
+// The number of a draw's answer.
+fn draw_number(d: Draw) -> u32
+    ensures { λ r. ⌜ r ≡ drawNumber d .0 ⌝ }
+{
+    match d {
+        Draw::Value(_) => 0,
+        Draw::NoDraw => 1,
+        Draw::Refused => 7,
+    }
+}
+
+// The value drawn, or 0.
+fn draw_value(d: Draw) -> u64
+    ensures { λ r. ⌜ r ≡ drawNumber d .1 ⌝ }
+{
+    match d {
+        Draw::Value(v) => v,
+        Draw::NoDraw => 0,
+        Draw::Refused => 0,
+    }
+}
+
+// The number of an answer of a draw with a probability.
+fn chance_number(c: Chance) -> u32
+    ensures { λ r. ⌜ r ≡ chanceNumber c ⌝ }
+{
+    match c {
+        Chance::Yes => 1,
+        Chance::No => 0,
+        Chance::Refused => 3,
+    }
+}
+
+// 0 with the value drawn in the 8 bytes of `out`, the highest first; otherwise `out` is untouched and the answer is
+// 1: no draw; 7: n is 0; 8: h is not of 16 bytes, or `out` not of 8.
+#[no_mangle]
+pub extern "C" fn alba_sample_uniform(h: &[u8], n: u64, out: &mut [u8]) -> u32
+    ensures { λ r. ⌜ (r, now (out .exit)) ≡ exportedUniform (now (h .entry)) n (now (out .entry)) ⌝ }
+{
+    if n == 0 {
+        return 7;
+    }
+    if h.len() != 16 {
+        return 8;
+    }
+    if out.len() != 8 {
+        return 8;
+    }
+    let d = sample_uniform(seed_of(h), n);
+    let number = draw_number(d);
+    if number == 0 {
+        big_endian::write(draw_value(d), out);
+    }
+    number
+}
+
+// 1: yes; 0: no; 8: h is not of 16 bytes; 3: q is below 0, above 1 or a NaN.
+#[no_mangle]
+pub extern "C" fn alba_sample_bernoulli(h: &[u8], q: f64) -> u32
+    ensures { λ r. ⌜ r ≡ exportedBernoulli (now (h .entry)) q ⌝ }
+{
+    if h.len() != 16 {
+        return 8;
+    }
+    chance_number(sample_bernoulli(seed_of(h), q))
+}

@@ -1,0 +1,235 @@
+// The sampler: a number below n, and a yes or no, from 16 bytes of a hash. Two u64 words stand for a u128.
+
+ghost use mathlib.Core.Path.{_≡_};
+ghost use mathlib.Core.Bool.{true, false};
+ghost use Prim.Native.Nat.{_+_, _-_, _*_, _^_, _%_, _≤_, _<_};
+ghost use lib.Dec.{ltb};
+ghost use Rattle.sampling.specs.BigEndian.{bigEndian};
+ghost use Rattle.sampling.specs.Sample.{isPower, modNotPower, uniform, drawNumber, outsideUnit, threshold, thresholdOrRefusal, thresholdNumber, bernoulli, chanceNumber, valueOf};
+
+// A number of 128 bits: hi * 2^64 + lo.
+pub struct Words {
+    pub hi: u64,
+    pub lo: u64,
+}
+
+// What a uniform draw answers.
+pub enum Draw {
+    Value(u64),
+    NoDraw,
+    Refused,
+}
+
+// What a draw with a probability answers.
+pub enum Chance {
+    Yes,
+    No,
+    Refused,
+}
+
+// What a probability comes to: a number of 128 bits that the hash must stay below.
+pub enum Threshold {
+    At(Words),
+    Refused,
+}
+
+// Eight bytes as one number, the first byte highest.
+fn word(a: u8, b: u8, c: u8, d: u8, e: u8, f: u8, g: u8, h: u8) -> u64
+    ensures { λ r. ⌜ r ≡ ((((((a * 256 + b) * 256 + c) * 256 + d) * 256 + e) * 256 + f) * 256 + g) * 256 + h ⌝ }
+{
+    let high = (((a as u64) * 256 + (b as u64)) * 256 + (c as u64)) * 256 + (d as u64);
+    let low = (((e as u64) * 256 + (f as u64)) * 256 + (g as u64)) * 256 + (h as u64);
+    high * 0x1_0000_0000 + low
+}
+
+// The 16 bytes as one number: its high word is that of the first 8.
+fn words_of(h: [u8; 16]) -> Words
+    ensures { λ r. ⌜ (r .hi ≡ bigEndian 8 h) × (valueOf r ≡ bigEndian 16 h) ⌝ }
+{
+    let hi = word(h[0], h[1], h[2], h[3], h[4], h[5], h[6], h[7]);
+    let lo = word(h[8], h[9], h[10], h[11], h[12], h[13], h[14], h[15]);
+    Words { hi, lo }
+}
+
+// Whether n is a power of two: whether its highest bit is all of it.
+fn is_power_of_two(n: u64) -> bool
+    requires { ⌜ 0 < n ⌝ }
+    ensures { λ r. ⌜ r ≡ isPower 64 n ⌝ }
+{
+    n == 1u64 << (63 - u64::leading_zeros(n))
+}
+
+// The first 8 bytes modulo a power of two: the bits below its one.
+fn mod_power_of_2(first: u64, n: u64) -> u64
+    requires { ⌜ isPower 64 n ≡ true ⌝ }
+    ensures { λ r. ⌜ r ≡ first % n ⌝ }
+{
+    first & (n - 1)
+}
+
+// a + b modulo n, with no sum that wraps. Either way it is one addition or subtraction: the compiler then takes no branch.
+fn add_mod(a: u64, b: u64, n: u64) -> u64
+    requires { ⌜ (a < n) × (b < n) ⌝ }
+    ensures { λ r. ⌜ r ≡ (a + b) % n ⌝ }
+{
+    let room = n - a;
+    if b < room {
+        return a + b;
+    }
+    b - room
+}
+
+// i modulo any n: the high word's remainder doubled 64 times, and the low word's added.
+fn mod_by_doubling(i: Words, n: u64) -> u64
+    requires { ⌜ 0 < n ⌝ }
+    ensures { λ r. ⌜ r ≡ valueOf i % n ⌝ }
+{
+    let mut high = i.hi % n;
+    let mut k: u64 = 0;
+    while k < 64 {
+        high = add_mod(high, high, n);
+        k += 1;
+    }
+    add_mod(high, i.lo % n, n)
+}
+
+// i modulo an n of at most 2^32: long division, by digits of 32 bits.
+fn mod_by_halves(i: Words, n: u64) -> u64
+    requires { ⌜ (0 < n) × (n ≤ 2 ^ 32) ⌝ }
+    ensures { λ r. ⌜ r ≡ valueOf i % n ⌝ }
+{
+    let first = i.hi % n;
+    let second = (first * 0x1_0000_0000 + i.lo / 0x1_0000_0000) % n;
+    (second * 0x1_0000_0000 + i.lo % 0x1_0000_0000) % n
+}
+
+// i modulo n.
+fn mod_words(i: Words, n: u64) -> u64
+    requires { ⌜ 0 < n ⌝ }
+    ensures { λ r. ⌜ r ≡ valueOf i % n ⌝ }
+{
+    if n <= 0x1_0000_0000 {
+        return mod_by_halves(i, n);
+    }
+    mod_by_doubling(i, n)
+}
+
+// i modulo n, unless i is D * n or more. With m the remainder of 2^128 - 1, D * n is 2^128 - 1 - m: only an i
+// whose high word is full, and whose low word is within m of full, comes to it.
+fn mod_not_power_of_2(i: Words, n: u64) -> Draw
+    requires { ⌜ 0 < n ⌝ }
+    ensures { λ r. ⌜ drawNumber r ≡ modNotPower (valueOf i) n ⌝ }
+{
+    if i.hi == 0xffff_ffff_ffff_ffff {
+        let m = mod_words(
+            Words {
+                hi: 0xffff_ffff_ffff_ffff,
+                lo: 0xffff_ffff_ffff_ffff,
+            },
+            n,
+        );
+        if 0xffff_ffff_ffff_ffff - i.lo <= m {
+            return Draw::NoDraw;
+        }
+    }
+    Draw::Value(mod_words(i, n))
+}
+
+// A number below n, or no draw. Refused: n is 0.
+pub fn sample_uniform(h: [u8; 16], n: u64) -> Draw
+    ensures { λ r. ⌜ drawNumber r ≡ uniform h n ⌝ }
+{
+    if n == 0 {
+        return Draw::Refused;
+    }
+    let i = words_of(h);
+    if is_power_of_two(n) {
+        return Draw::Value(mod_power_of_2(i.hi, n));
+    }
+    mod_not_power_of_2(i, n)
+}
+
+// Whether q is no probability: a NaN, below 0 or above 1. Negative zero is zero.
+fn is_outside_unit(q: f64) -> bool
+    ensures { λ r. ⌜ r ≡ outsideUnit q ⌝ }
+{
+    if q != q {
+        return true;
+    }
+    if q < 0.0 {
+        return true;
+    }
+    q > 1.0
+}
+
+// The smaller of floor(q * 2^128) and 2^128 - 1, exactly. q is digits * 2^(exponent - 1075), so q * 2^128 is digits * 2^(exponent - 947),
+// with digits of 53 bits. By the exponent: below 884 it is less than 1, a subnormal q too; up to 947 it fits the low word; from 1011 on
+// its low word is 0; at 1023 q is 1.
+fn threshold_words(q: f64) -> Words
+    requires { ⌜ outsideUnit q ≡ false ⌝ }
+    ensures { λ r. ⌜ valueOf r ≡ threshold q ⌝ }
+{
+    let bits: u64 = f64::to_bits(q);
+    let exponent: u64 = bits / 0x10_0000_0000_0000 % 2048;
+    let digits: u64 = 0x10_0000_0000_0000 + bits % 0x10_0000_0000_0000;
+    if exponent < 884 {
+        return Words { hi: 0, lo: 0 };
+    }
+    if exponent <= 947 {
+        return Words {
+            hi: 0,
+            lo: digits >> (947 - exponent),
+        };
+    }
+    if exponent < 1011 {
+        return Words {
+            hi: digits >> (1011 - exponent),
+            lo: digits << (exponent - 947),
+        };
+    }
+    if exponent < 1023 {
+        return Words {
+            hi: digits << (exponent - 1011),
+            lo: 0,
+        };
+    }
+    Words {
+        hi: 0xffff_ffff_ffff_ffff,
+        lo: 0xffff_ffff_ffff_ffff,
+    }
+}
+
+// X of the probability q. Refused: q is below 0, above 1 or a NaN.
+pub fn threshold_of(q: f64) -> Threshold
+    ensures { λ r. ⌜ thresholdNumber r ≡ thresholdOrRefusal q ⌝ }
+{
+    if is_outside_unit(q) {
+        return Threshold::Refused;
+    }
+    Threshold::At(threshold_words(q))
+}
+
+// Whether the 16 bytes, as one number, are below x.
+pub fn below_threshold(h: [u8; 16], x: Words) -> bool
+    ensures { λ r. ⌜ r ≡ ltb (bigEndian 16 h) (valueOf x) ⌝ }
+{
+    let i = words_of(h);
+    if i.hi == x.hi {
+        return i.lo < x.lo;
+    }
+    i.hi < x.hi
+}
+
+// Yes with the probability q. Refused: q is below 0, above 1 or a NaN.
+pub fn sample_bernoulli(h: [u8; 16], q: f64) -> Chance
+    ensures { λ r. ⌜ chanceNumber r ≡ bernoulli h q ⌝ }
+{
+    let t = threshold_of(q);
+    let Threshold::At(x) = t else {
+        return Chance::Refused;
+    };
+    if below_threshold(h, x) {
+        return Chance::Yes;
+    }
+    Chance::No
+}

@@ -1,0 +1,81 @@
+//! `alba_sample_bernoulli` against the Rust's `sample_bernoulli`.
+
+use super::{hex, Checked, Run, Shifted};
+use crate::{ffi, rng::Rng};
+
+pub fn run(run: &mut Run, cases: u64) -> Checked {
+    for q in edges() {
+        for i in around(&mut run.rng, q) {
+            check(&mut run.rng, i, q)?;
+            run.count();
+        }
+    }
+    for _ in 0..cases {
+        let q = any_q(&mut run.rng);
+        let near = around(&mut run.rng, q);
+        let i = match run.rng.below(2) {
+            0 => run.rng.wide(),
+            _ => near[run.rng.below(near.len() as u64) as usize],
+        };
+        check(&mut run.rng, i, q)?;
+        run.count();
+    }
+    Ok(())
+}
+
+/// One case with a lawful q; `i` is the hash as a big-endian number.
+pub fn check(rng: &mut Rng, i: u128, q: f64) -> Checked {
+    let bytes = i.to_be_bytes();
+    let h = Shifted::new(rng, &bytes);
+    let ours = ffi::sample_bernoulli(Some(h.bytes()), q);
+    let theirs = oracle::sample_bernoulli(&bytes, q);
+    if ours == u32::from(theirs) && h.bytes() == bytes {
+        return Ok(());
+    }
+    Err(format!(
+        "  h = {}\n  q = {q:e}, bits 0x{:016x}\n  ours: {ours}\n  the Rust: {theirs}\n  h after: {}",
+        hex(&bytes),
+        q.to_bits(),
+        hex(h.bytes())
+    ))
+}
+
+/// Both zeros, every power of two from the smallest subnormal to 1, and the neighbours of each within 0 to 1.
+pub fn edges() -> Vec<f64> {
+    let mut qs = vec![-0.0, 0.3, 0.999];
+    for power in (0..=1074).map(power_of_half) {
+        qs.extend([power.to_bits() - 1, power.to_bits(), power.to_bits() + 1].map(f64::from_bits));
+    }
+    qs.retain(|&q| q <= 1.0);
+    qs
+}
+
+/// 2^−k, for k from 0 to 1074, by its bits: the exponent's where the double is normal, a single digit's where it isn't.
+fn power_of_half(k: u64) -> f64 {
+    f64::from_bits(if k <= 1022 { (1023 - k) << 52 } else { 1 << (1074 - k) })
+}
+
+/// Hashes at and around the threshold of q (which is used for this choice only), at both ends, and on each side.
+fn around(rng: &mut Rng, q: f64) -> [u128; 9] {
+    let x = (q * 2f64.powi(128)) as u128;
+    let below = rng.wide() % x.max(1);
+    let above = x.saturating_add(rng.wide() % (u128::MAX - x).max(1));
+    [0, 1, x.saturating_sub(1), x, x.saturating_add(1), u128::MAX - 1, u128::MAX, below, above]
+}
+
+fn any_q(rng: &mut Rng) -> f64 {
+    let one = 1f64.to_bits();
+    match rng.below(4) {
+        // Any lawful double, each as likely as another: mostly tiny ones.
+        0 => f64::from_bits(rng.below(one + 1)),
+        // Evenly within 0 to 1.
+        1 => (rng.word() >> 11) as f64 / (1u64 << 53) as f64,
+        // Of any size that the threshold can see, and somewhat below.
+        2 => f64::from_bits(one - rng.below(140 << 52)),
+        // Few digits after the first, around a power of two.
+        _ => {
+            let bits = power_of_half(rng.below(1075)).to_bits();
+            f64::from_bits(bits.saturating_add(rng.below(9)).saturating_sub(4).min(one))
+        }
+    }
+}

@@ -1,0 +1,125 @@
+//! `alba_sha256` against the crate `sha2`, which the Rust hashes with.
+
+use super::{guard::Guarded, hex, Checked, Run};
+use crate::{ffi, ffi::Lent, rng::Rng};
+use sha2::{Digest, Sha256};
+
+/// Up to this length every length is tried: past three blocks and each place where the padding needs one block more.
+const SHORT: usize = 260;
+
+pub fn run(run: &mut Run, cases: u64) -> Checked {
+    for len in 0..=SHORT {
+        let room = message(&mut run.rng, len);
+        let bytes = &room[room.len() - len..];
+        let whole = Some(bytes);
+        let lent = [
+            [whole, Some(&[]), Some(&[]), Some(&[])],
+            [Some(&[]), whole, None, None],
+            [None, None, whole, None],
+            [None, None, None, whole],
+            cut(&mut run.rng, bytes),
+            cut(&mut run.rng, bytes),
+        ];
+        for strings in lent {
+            check(&mut run.rng, strings)?;
+            run.count();
+        }
+    }
+    for _ in 0..cases {
+        let most = match run.rng.below(4096) {
+            0 => 1 << 20,
+            1..=63 => 1 << 16,
+            _ => 2000,
+        };
+        let len = run.rng.below(most + 1) as usize;
+        let room = message(&mut run.rng, len);
+        let strings = cut(&mut run.rng, &room[room.len() - len..]);
+        check(&mut run.rng, strings)?;
+        run.count();
+    }
+    Ok(())
+}
+
+/// The most bytes that are admitted, and one more.
+pub fn at_limit(run: &mut Run, _: u64) -> Checked {
+    let mut message = vec![0; ffi::LONGEST + 1];
+    run.rng.fill(&mut message);
+    let (longest, whole) = (&message[..ffi::LONGEST], Some(&message[..]));
+    let theirs: [u8; 32] = Sha256::digest(longest).into();
+    let several = cut(&mut run.rng, longest);
+    for strings in [[Some(longest), None, None, None], several] {
+        expect(&mut run.rng, strings, 32, 0, Some(&theirs))?;
+        run.count();
+    }
+
+    let one = Some(&message[..1]);
+    let mut over = vec![
+        [whole, None, None, None],
+        [None, None, None, whole],
+        [Some(longest), one, None, None],
+        [one, None, Some(longest), Some(&[])],
+        [whole, whole, whole, whole],
+    ];
+    over.extend((0..3).map(|_| cut(&mut run.rng, &message)));
+    for strings in over {
+        expect(&mut run.rng, strings, 32, ffi::TOO_LONG, Some(&[0; 32]))?;
+        run.count();
+        // A wrong length of out is refused first.
+        expect(&mut run.rng, strings, 31, ffi::BAD_LENGTH, None)?;
+        run.count();
+    }
+    Ok(())
+}
+
+/// One case of lawful length. `sha2` runs second, so that a message altered by the library shows as well.
+pub fn check(rng: &mut Rng, strings: [Lent; 4]) -> Checked {
+    let mut out = Guarded::new(rng, 32);
+    let ours = ffi::sha256(strings, &mut out);
+    let joined = strings.iter().flatten().fold(Sha256::new(), |hasher, string| hasher.chain_update(string));
+    let theirs: [u8; 32] = joined.finalize().into();
+    verdict(strings, &out, ours, 0, Some(&theirs))
+}
+
+/// One case whose answer is known before.
+pub fn expect(rng: &mut Rng, strings: [Lent; 4], out_len: usize, number: u32, written: Option<&[u8]>) -> Checked {
+    let mut out = Guarded::new(rng, out_len);
+    let ours = ffi::sha256(strings, &mut out);
+    verdict(strings, &out, ours, number, written)
+}
+
+pub fn verdict(strings: [Lent; 4], out: &Guarded, ours: u32, number: u32, written: Option<&[u8]>) -> Checked {
+    if ours == number && out.holds(written) {
+        return Ok(());
+    }
+    let due = written.map_or("untouched".to_string(), hex);
+    let strings = strings.map(|string| match string {
+        None => "  string: a null pointer, 0 bytes\n".to_string(),
+        Some(bytes) if bytes.len() > 1 << 20 => format!("  string: {} bytes, which the seed gives\n", bytes.len()),
+        Some(bytes) => format!("  string: {} bytes: {}\n", bytes.len(), hex(bytes)),
+    });
+    Err(format!("{}  ours: {ours}\n  due: {number} and out {due}\n{}", strings.concat(), out.story()))
+}
+
+/// A message of random bytes at the end of what is returned, which starts up to 7 bytes earlier: every alignment is met.
+fn message(rng: &mut Rng, len: usize) -> Vec<u8> {
+    let mut room = vec![0; len + rng.below(8) as usize];
+    rng.fill(&mut room);
+    room
+}
+
+/// The message cut into four: anywhere, at its ends (so that strings are empty), or where a block ends.
+fn cut<'a>(rng: &mut Rng, message: &'a [u8]) -> [Lent<'a>; 4] {
+    let len = message.len();
+    let mut places: [usize; 3] = std::array::from_fn(|_| {
+        let anywhere = rng.below(len as u64 + 1) as usize;
+        match rng.below(4) {
+            0 => 0,
+            1 => anywhere / 64 * 64,
+            2 if rng.below(2) == 0 => len,
+            _ => anywhere,
+        }
+    });
+    places.sort_unstable();
+    let [a, b, c] = places;
+    [&message[..a], &message[a..b], &message[b..c], &message[c..]].map(Some)
+}

@@ -1,0 +1,137 @@
+//! Bad input through the exports: each is answered by its number, in the order of the specification's table, and writes nothing.
+
+use super::{bernoulli, guard::Guarded, hash, hex, uniform, Checked, Run, Shifted};
+use crate::{ffi, rng::Rng};
+
+const LENGTHS: std::ops::RangeInclusive<usize> = 0..=40;
+/// Unlawful doubles made at random, beside the listed ones.
+const RANDOM: u64 = 100_000;
+
+pub fn run(run: &mut Run, _: u64) -> Checked {
+    of_uniform(run)?;
+    of_bernoulli(run)?;
+    of_hash(run)
+}
+
+/// 7 for n = 0 comes before 8 for a length; everything lawful goes to the comparison with the Rust.
+fn of_uniform(run: &mut Run) -> Checked {
+    for n in [0, 1, 3, 10, 1 << 32, (1 << 32) + 1, u64::MAX] {
+        for h_len in LENGTHS {
+            for out_len in LENGTHS {
+                match (h_len, out_len, n) {
+                    (16, 8, 1..) => uniform::check(&mut run.rng, u128::MAX / 3, n)?,
+                    _ => refuse_uniform(&mut run.rng, Some(h_len), n, Some(out_len))?,
+                }
+                run.count();
+            }
+        }
+        for (h_len, out_len) in [(None, Some(8)), (Some(16), None), (None, None), (None, Some(0)), (Some(0), None)] {
+            refuse_uniform(&mut run.rng, h_len, n, out_len)?;
+            run.count();
+        }
+    }
+    Ok(())
+}
+
+/// A length of `None` is a null pointer with length 0.
+fn refuse_uniform(rng: &mut Rng, h_len: Option<usize>, n: u64, out_len: Option<usize>) -> Checked {
+    let h = any_bytes(rng, h_len);
+    let mut out = match out_len {
+        Some(len) => Guarded::new(rng, len),
+        None => Guarded::null(rng),
+    };
+    let ours = ffi::sample_uniform(h.as_ref().map(Shifted::bytes), n, &mut out);
+    let due = if n == 0 { ffi::BAD_N } else { ffi::BAD_LENGTH };
+    if ours == due && out.holds(None) {
+        return Ok(());
+    }
+    Err(format!("  h = {}\n  n = {n} = 0x{n:x}\n  ours: {ours}\n  due: {due} and out untouched\n{}", shown(&h), out.story()))
+}
+
+/// 8 for the length comes before 3 for q; everything lawful goes to the comparison with the Rust.
+fn of_bernoulli(run: &mut Run) -> Checked {
+    for q in unlawful().into_iter().chain([0.0, -0.0, 0.5, 1.0]) {
+        for h_len in LENGTHS.map(Some).chain([None]) {
+            bernoulli_of(&mut run.rng, h_len, q)?;
+            run.count();
+        }
+    }
+    for _ in 0..RANDOM {
+        let q = f64::from_bits(run.rng.word());
+        let len = if run.rng.below(4) == 0 { 15 + run.rng.below(3) as usize } else { 16 };
+        bernoulli_of(&mut run.rng, Some(len), q)?;
+        run.count();
+    }
+    Ok(())
+}
+
+fn bernoulli_of(rng: &mut Rng, h_len: Option<usize>, q: f64) -> Checked {
+    let due = match h_len {
+        Some(16) if (0.0..=1.0).contains(&q) => {
+            let i = rng.wide();
+            return bernoulli::check(rng, i, q);
+        }
+        Some(16) => ffi::BAD_Q,
+        _ => ffi::BAD_LENGTH,
+    };
+    let h = any_bytes(rng, h_len);
+    let ours = ffi::sample_bernoulli(h.as_ref().map(Shifted::bytes), q);
+    if ours == due {
+        return Ok(());
+    }
+    Err(format!("  h = {}\n  q = {q:e}, bits 0x{:016x}\n  ours: {ours}\n  due: {due}", shown(&h), q.to_bits()))
+}
+
+/// Not numbers of several kinds, infinities, numbers below 0 and above 1, the nearest ones first.
+fn unlawful() -> Vec<f64> {
+    let mut bits = vec![
+        1f64.to_bits() + 1,
+        1f64.to_bits() + 2,
+        2f64.to_bits(),
+        f64::MAX.to_bits(),
+        f64::INFINITY.to_bits(),
+        1,
+        f64::MIN_POSITIVE.to_bits(),
+        0.5f64.to_bits(),
+        1f64.to_bits() - 1,
+        1f64.to_bits(),
+    ];
+    let quiet = 1 << 51;
+    let infinity = f64::INFINITY.to_bits();
+    bits.extend([1, 2, quiet - 1, quiet, quiet + 1, quiet | 0xdead, (1 << 52) - 1].map(|payload| infinity | payload));
+    let negative = bits.iter().map(|b| b | 1 << 63).collect::<Vec<_>>();
+    bits.extend(negative);
+    let mut qs = bits.into_iter().map(f64::from_bits).collect::<Vec<_>>();
+    qs.retain(|q| !(0.0..=1.0).contains(q));
+    qs
+}
+
+/// A wrong length of out, whatever the strings; null strings are empty ones.
+fn of_hash(run: &mut Run) -> Checked {
+    let bytes = [0x5a; 100];
+    let some = Some(&bytes[..]);
+    for strings in [[None; 4], [some, None, None, None], [None, some, some, None], [some; 4]] {
+        for out_len in LENGTHS {
+            match out_len {
+                32 => hash::check(&mut run.rng, strings)?,
+                _ => hash::expect(&mut run.rng, strings, out_len, ffi::BAD_LENGTH, None)?,
+            }
+            run.count();
+        }
+        let mut out = Guarded::null(&mut run.rng);
+        let ours = ffi::sha256(strings, &mut out);
+        hash::verdict(strings, &out, ours, ffi::BAD_LENGTH, None)?;
+        run.count();
+    }
+    Ok(())
+}
+
+fn any_bytes(rng: &mut Rng, len: Option<usize>) -> Option<Shifted> {
+    let mut bytes = [0; 40];
+    rng.fill(&mut bytes);
+    len.map(|len| Shifted::new(rng, &bytes[..len]))
+}
+
+fn shown(bytes: &Option<Shifted>) -> String {
+    bytes.as_ref().map_or("a null pointer, 0 bytes".to_string(), |b| format!("{} bytes: {}", b.len, hex(b.bytes())))
+}

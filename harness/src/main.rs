@@ -1,0 +1,49 @@
+//! Compares the verified library with the Rust that it is made from (`compare`), and measures both (`bench`).
+
+mod args;
+#[cfg(feature = "bench")]
+mod bench;
+mod compare;
+mod ffi;
+mod rng;
+
+use args::Command;
+use std::process::ExitCode;
+
+#[cfg(not(feature = "bench"))]
+mod bench {
+    /// In place of the benchmark, so that a build without it needs no OpenSSL.
+    pub fn run(_: Option<usize>) -> Result<(), String> {
+        Err("harness: this build has no benchmark; build with --features portable, or with --features bench".to_string())
+    }
+}
+
+fn main() -> ExitCode {
+    let command = match args::parse(std::env::args().skip(1)) {
+        Ok(command) => command,
+        Err(why) => {
+            eprintln!("harness: {why}\n\n{}", args::HELP);
+            return ExitCode::from(2);
+        }
+    };
+    // The reference is the Rust in a release build: its debug assertions stop on inputs that are compared here.
+    if cfg!(debug_assertions) {
+        eprintln!("harness: build with --release");
+        return ExitCode::from(2);
+    }
+    let done = match command {
+        Command::Help => {
+            print!("{}", args::HELP);
+            Ok(())
+        }
+        Command::Compare(options) => compare::run(&options),
+        Command::Bench(setting) => bench::run(setting),
+    };
+    match done {
+        Ok(()) => ExitCode::SUCCESS,
+        Err(why) => {
+            eprintln!("{why}");
+            ExitCode::FAILURE
+        }
+    }
+}
