@@ -1,11 +1,22 @@
-//! Lays out the original source in Cargo's output folder, each file byte for byte, with empty files where it includes
-//! documentation that isn't handed over with it, and writes the `mod` lines that its missing lib.rs would have.
+//! Lays out the original source in Cargo's output folder, each file byte for byte, params.rs with one accessor behind it, with
+//! empty files where it includes documentation that isn't handed over with it, and writes the `mod` lines that its missing
+//! lib.rs would have.
 
 use std::{env, fs, path::Path, path::PathBuf, process};
 
 /// The modules of the source that the harness uses. The lottery is left out: the source has one of its three files.
 const MODULES: [(&str, &[&str]); 2] =
     [("utils", &["errors", "misc", "sample", "types"]), ("centralized_telescope", &["params", "proof", "round", "telescope"])];
+
+/// What is laid behind params.rs, in the same module: the small case is private there.
+const SMALL_CASE: &str = "
+impl Params {
+    /// `param_small_case`, made callable.
+    pub fn small_case(completeness: f64, proof_size: f64) -> Params {
+        Self::param_small_case(completeness, proof_size)
+    }
+}
+";
 
 /// The pages that the source names in `include_str!`.
 const PAGES: [&str; 3] = ["proof.md", "round.md", "params/overview.md"];
@@ -23,7 +34,10 @@ fn main() {
             let place = Path::new("src").join(folder).join(format!("{file}.rs"));
             let (original, laid) = (from.join(&place), to.join(&place));
             println!("cargo:rerun-if-changed={}", original.display());
-            let text = fs::read(&original).unwrap_or_else(|e| stop(&format!("{}: {e}", original.display())));
+            let mut text = fs::read(&original).unwrap_or_else(|e| stop(&format!("{}: {e}", original.display())));
+            if *file == "params" {
+                text.extend_from_slice(SMALL_CASE.as_bytes());
+            }
             fs::write(&laid, text).expect("a file in OUT_DIR");
             lines += &format!("    #[path = {laid:?}]\n    pub mod {file};\n");
         }

@@ -9,7 +9,8 @@ usage: harness compare [--cases N] [--seed S]
 
 compare   Runs the verified library and the original Rust on the same inputs and compares every answer and every byte lent.
           Limits and bad input are always run whole; --cases says how many random inputs there are besides.
-  --cases N   random inputs for each of the uniform and the Bernoulli sampler, and N / 20 messages to hash (default 2000000)
+  --cases N   random inputs for each of the uniform and the Bernoulli sampler, N / 20 messages to hash, and N / 20 of the small
+              case (default 2000000)
   --seed S    decimal, or hexadecimal after 0x (default: from the clock; it is printed)
           It ends with a line of counts, or with the first case that differs and status 1.
 

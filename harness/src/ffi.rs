@@ -6,6 +6,7 @@
 extern "C" {
     fn alba_sample_uniform(h: *const u8, h_len: usize, n: u64, out: *mut u8, out_len: usize) -> u32;
     fn alba_sample_bernoulli(h: *const u8, h_len: usize, q: f64) -> u32;
+    fn alba_small_case(u: u64, c: f64, out: *mut u64, out_len: usize) -> u32;
     #[rustfmt::skip]
     fn alba_sha256(
         a: *const u8,
@@ -31,6 +32,10 @@ pub const BAD_N: u32 = 7;
 pub const BAD_LENGTH: u32 = 8;
 /// Over `LONGEST` bytes joined.
 pub const TOO_LONG: u32 = 9;
+/// u is not 1 to 1,024.
+pub const BAD_U: u32 = 30;
+/// c is not a number, below 0 or above 65,535.
+pub const BAD_C: u32 = 31;
 /// The most bytes that the four strings of a hash may have together.
 pub const LONGEST: usize = 1 << 29;
 
@@ -77,4 +82,11 @@ pub fn sha256(strings: [Lent; 4], out: &mut (impl Place + ?Sized)) -> u32 {
     let (out, out_len) = out.parts();
     // SAFETY: each pointer is valid for its length, the four strings for reads and out for writes.
     unsafe { alba_sha256(a, a_len, b, b_len, c, c_len, d, d_len, out, out_len) }
+}
+
+/// `BAD_LENGTH` (out not of five numbers), then `BAD_U`, then `BAD_C`, `out` untouched in each; or 0 with proof_size, max_retries,
+/// search_width, dfs_bound and the bits of q in `out`.
+pub fn small_case(u: u64, c: f64, out: &mut [u64]) -> u32 {
+    // SAFETY: the pointer is valid for reads and writes of its length.
+    unsafe { alba_small_case(u, c, out.as_mut_ptr(), out.len()) }
 }

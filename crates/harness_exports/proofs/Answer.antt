@@ -1,13 +1,16 @@
--- The exported hash by its one test.
+-- The exported calls by their tests.
 use mathlib.Core.Path.{_≡_, ap, _∙_}
-use mathlib.Core.List.{List, _++_, append-nil}
+use mathlib.Core.List.{List, [], _∷_, _++_, append-nil}
 use Prim.Native.Nat.{ℕ}
 use native.Mathlib.Omega.{arith}
 use borrow.Author.Tests.{eq-eqb, ne-eqb}
-use lib.ListN.{length, take, drop, drop-of-length-le}
-use lib.Seq.{take-all}
+use lib.Ieee.{Float}
+use lib.ListN.{length, take, drop, set, drop-of-length-le}
+use lib.Seq.{take-all, sets-eq}
 use Rattle.sampling.specs.Hash.{hashed}
-use Rattle.harness_exports.specs.Exported.{exportedHash}
+use Rattle.centralized_telescope.specs.Params.{smallCase}
+use Rattle.centralized_telescope.specs.declared.params.SmallSettings.{SmallSettings}
+use Rattle.harness_exports.specs.Exported.{exportedHash, withSettings, exportedSmallCase}
 
 pub refused : (m out : List ℕ) → (length out ≡ 32 → ⊥) → (8, out) ≡ exportedHash m out
 unfolding exportedHash
@@ -19,3 +22,20 @@ unfolding exportedHash
 served m out last digest k l h e p =
     let whole : last ≡ digest = p ∙ rw (take-all (length digest) digest (omega arith), drop-of-length-le out {i = length digest} (omega arith), append-nil digest) in
     rw (eq-eqb (length out) 32 h) (ap (λ (b : List ℕ). (k, b)) whole ∙ e)
+
+-- ---- the small case
+
+-- five stores fill a list of five
+pub five-set : (l : List ℕ) (a b c d e : ℕ) → length l ≡ 5 → set (set (set (set (set l 0 a) 1 b) 2 c) 3 d) 4 e ≡ a ∷ b ∷ c ∷ d ∷ e ∷ []
+five-set l a b c d e h =
+    sets-eq (a ∷ b ∷ c ∷ d ∷ e ∷ []) l 0 (omega arith)
+    ∙ ap (λ (r : List ℕ). a ∷ b ∷ c ∷ d ∷ e ∷ r) (drop-of-length-le l {i = 5} (omega arith))
+
+pub not-five : (u : ℕ) (c : Float) (out : List ℕ) → (length out ≡ 5 → ⊥) → (8, out) ≡ exportedSmallCase u c out
+unfolding exportedSmallCase
+not-five u c out h = rw (ne-eqb (length out) 5 h)
+
+pub answered : (u : ℕ) (c : Float) (out : List ℕ) (k : ℕ) (s : SmallSettings) (a : ℕ × List ℕ) → length out ≡ 5 → (k, s) ≡ smallCase u c
+    → a ≡ withSettings k s out → a ≡ exportedSmallCase u c out
+unfolding exportedSmallCase
+answered u c out k s a h e p = rw (eq-eqb (length out) 5 h, ← e) p

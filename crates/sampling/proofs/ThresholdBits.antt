@@ -28,12 +28,6 @@ by-bounds nan t d e = absurd (subst T (sym nan-differs ∙ d) tt)
 by-bounds (inf s) t d e = rw e
 by-bounds (fin s m n) t d e = rw e
 
-pub inside-no-nan : (q : Float) → outsideUnit q ≡ false → T (not (isNan q))
-unfolding outsideUnit isNan
-inside-no-nan nan o = absurd (subst T o tt)
-inside-no-nan (inf s) o = tt
-inside-no-nan (fin s m e) o = tt
-
 -- ---- shifts
 
 module _ (q s w : ℕ) where

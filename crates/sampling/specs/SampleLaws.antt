@@ -1,6 +1,6 @@
 -- Laws of the sampler's definitions. A caller that cites these opens none of the definitions.
 use mathlib.Core.Path.{_≡_, refl, sym, ap, _∙_, subst}
-use mathlib.Core.Bool.{Bool, true, false, cond, _||_}
+use mathlib.Core.Bool.{Bool, true, false, not, cond, _||_}
 use mathlib.Core.List.{List}
 use mathlib.Core.Logic.{_⊎_, inl, inr}
 use Prim.Native.Nat.{ℕ, zero, suc, _-_, _*_, _%_, _^_, _≤_, _<_}
@@ -114,6 +114,13 @@ threshold-below (fin s m e) = lt-of-le-of-lt (min-le-right (floorOf m e) (2 ^ 12
 pub negative-zero : thresholdOrRefusal (ofBits binary64 (2 ^ 63)) ≡ (0, 0)
 unfolding ofBits isNan lt outsideUnit threshold thresholdOrRefusal
 negative-zero = refl
+
+-- a q that is not refused is a number
+pub inside-no-nan : (q : Float) → outsideUnit q ≡ false → T (not (isNan q))
+unfolding outsideUnit isNan
+inside-no-nan nan o = absurd (subst T o tt)
+inside-no-nan (inf s) o = tt
+inside-no-nan (fin s m e) o = tt
 
 -- the threshold and its refusal, by the test on q
 pub threshold-refused : (q : Float) → outsideUnit q ≡ true → thresholdOrRefusal q ≡ (3, 0)

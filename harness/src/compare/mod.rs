@@ -4,6 +4,7 @@ mod bernoulli;
 mod guard;
 mod hash;
 mod refusals;
+mod small_case;
 mod uniform;
 
 use crate::{args::Compare, rng::Rng};
@@ -18,11 +19,12 @@ type Kind = fn(&mut Run, u64) -> Checked;
 
 pub fn run(options: &Compare) -> Checked {
     println!("seed 0x{:016x}, {} random cases", options.seed, options.cases);
-    let kinds: [(&str, Kind, u64); 5] = [
+    let kinds: [(&str, Kind, u64); 6] = [
         ("uniform", uniform::run, options.cases),
         ("Bernoulli", bernoulli::run, options.cases),
         ("hash", hash::run, options.cases / 20),
         ("hash at its limit", hash::at_limit, 0),
+        ("small case", small_case::run, options.cases / 20),
         ("refusals", refusals::run, 0),
     ];
     let mut counts = Vec::new();

@@ -1,0 +1,3 @@
+-- The laws that the proofs of `centralized_telescope` share.
+mod Whole
+mod Figures

@@ -1,0 +1,132 @@
+-- The settings of document 01, their limits and the small case's, in its words: what the contracts of `params` cite.
+use mathlib.Core.Bool.{Bool, false, cond, _||_}
+use Prim.Native.Nat.{ℕ, _+_, _-_, _*_, _/_, _%_, _^_}
+use lib.IntN.{pos}
+use lib.Dec.{ltb, eqb}
+use lib.Ieee.{Float, nan, inf, fin, binary64, up, down, isNan, lt, round, ofInt, add, mul, div}
+use Rattle.sampling.specs.Sample.{valueOf, thresholdOrRefusal}
+use Rattle.centralized_telescope.specs.declared.params.Params.{Params}
+use Rattle.centralized_telescope.specs.declared.params.Checked.{Checked}
+use Rattle.centralized_telescope.specs.declared.params.SmallSettings.{SmallSettings}
+use Rattle.centralized_telescope.specs.declared.params.SmallCase.{SmallCase}
+use Rattle.centralized_telescope.specs.declared.params.Checked.the-variants as check
+use Rattle.centralized_telescope.specs.declared.params.SmallCase.the-variants as small
+
+-- ---- the check of the settings
+
+-- n is "not 1 to" hi
+unfoldable pub notOneTo : ℕ → ℕ → Bool
+notOneTo hi n = ltb n 1 || ltb hi n
+
+-- 01, Lent and given back, refusal 1: "set_size out of range". The range: "set_size 1 to 32,768"
+abbrev pub setSizeOut : ℕ → Bool
+setSizeOut n = notOneTo 32768 n
+
+-- 01, Lent and given back, refusal 2: "another whole-number limit broken". The limits: "proof_size 0 to 1,024;
+-- max_retries 0 to 65,535; search_width 0 to 2^32 − 1; dfs_bound 0 to 2^48"
+unfoldable pub limitBroken : Params → Bool
+limitBroken p =
+    ltb 1024 (p .«proof_size»)
+    || (ltb 65535 (p .«max_retries») || (ltb (2 ^ 32 - 1) (p .«search_width») || ltb (2 ^ 48) (p .«dfs_bound»)))
+
+-- 01, Lent and given back: "Each call meets its lines from the top." The number of the first refusal, or 0 with X of q.
+-- Refusal 3, "q below 0, above 1 or NaN", is the sampler's
+unfoldable pub checked : Params → ℕ × ℕ
+checked p = cond (setSizeOut (p .«set_size»)) (1, 0) (cond (limitBroken p) (2, 0) (thresholdOrRefusal (p .q)))
+
+-- 01's number, and X, for each answer of the check
+abbrev pub checkedNumber : Checked → ℕ × ℕ
+checkedNumber (check.Lawful x) = (0, valueOf x)
+checkedNumber check.SetSizeRefused = (1, 0)
+checkedNumber check.LimitRefused = (2, 0)
+checkedNumber check.ProbabilityRefused = (3, 0)
+
+-- ---- doubles. "Each operation rounds once": IEEE 754-2019, 5.4.1, to the nearest, ties to even
+
+infixl 20 _⊕_
+infixl 30 _⊗_
+infixl 30 _⊘_
+abbrev pub _⊕_ : Float → Float → Float
+_⊕_ x y = add binary64 x y
+
+abbrev pub _⊗_ : Float → Float → Float
+_⊗_ x y = mul binary64 x y
+
+abbrev pub _⊘_ : Float → Float → Float
+_⊘_ x y = div binary64 x y
+
+-- the double of a whole number
+unfoldable pub whole : ℕ → Float
+whole n = ofInt binary64 (pos n)
+
+-- 01, Small-case settings: "L is the double nearest 2.48490664978800031023"
+unfoldable pub L : Float
+L = round binary64 false 248490664978800031023 (10 ^ 20)
+
+-- x is a NaN, below 0 or above the whole number hi. Negative zero is not below 0
+unfoldable pub outside : ℕ → Float → Bool
+outside hi x = isNan x || (lt x (fin false 0 (pos 0)) || lt (fin false hi (pos 0)) x)
+
+-- The greatest whole number that isn't above x, and the least that isn't below it, for a finite x that isn't below 0:
+-- x is m * 2 ^ e, with 2 ^ e as up e / down e
+unfoldable pub floor : Float → ℕ
+floor nan = 0
+floor (inf s) = 0
+floor (fin s m e) = m * up e / down e
+
+unfoldable pub ceil : Float → ℕ
+ceil nan = 0
+ceil (inf s) = 0
+ceil (fin s m e) = cond (eqb (m * up e % down e) 0) (m * up e / down e) (m * up e / down e + 1)
+
+-- ---- the small case
+
+-- 01, Small-case settings: "(32 × L) × u", and "search_width = d = ceil" of it
+unfoldable pub beforeCeil : ℕ → Float
+beforeCeil u = (whole 32 ⊗ L) ⊗ whole u
+
+unfoldable pub searchWidth : ℕ → ℕ
+searchWidth u = ceil (beforeCeil u)
+
+-- 01, Small-case settings: "q = (2 × L) × (1 / d)"
+unfoldable pub probability : ℕ → Float
+probability d = (whole 2 ⊗ L) ⊗ (whole 1 ⊘ whole d)
+
+-- 01, Small-case settings: "((8 × (1 / L)) × (u + 1)) × d", and "dfs_bound = floor" of it
+unfoldable pub beforeFloor : ℕ → ℕ → Float
+beforeFloor u d = ((whole 8 ⊗ (whole 1 ⊘ L)) ⊗ (whole u ⊕ whole 1)) ⊗ whole d
+
+unfoldable pub dfsBound : ℕ → ℕ → ℕ
+dfsBound u d = floor (beforeFloor u d)
+
+-- 01, Small-case settings: "every setting but set_size, proof_size being u: max_retries = ceil(c)", and those above
+unfoldable pub smallSettings : ℕ → Float → SmallSettings
+smallSettings u c = record {
+  «proof_size» = u;
+  «max_retries» = ceil c;
+  «search_width» = searchWidth u;
+  «dfs_bound» = dfsBound u (searchWidth u);
+  q = probability (searchWidth u);
+}
+
+-- 01, Lent and given back: "A refusal's result holds its number and zeros"
+abbrev pub zeros : SmallSettings
+zeros = record { «proof_size» = 0; «max_retries» = 0; «search_width» = 0; «dfs_bound» = 0; q = fin false 0 (pos 0) }
+
+-- 01, Lent and given back, refusal 30: "u not 1 to 1,024"
+abbrev pub proofSizeOut : ℕ → Bool
+proofSizeOut u = notOneTo 1024 u
+
+-- 01, Lent and given back, refusal 31: "c NaN, below 0 or above 65,535"
+abbrev pub completenessOut : Float → Bool
+completenessOut c = outside 65535 c
+
+-- 01, Small-case settings: 0 and the settings, or the number of the first refusal
+unfoldable pub smallCase : ℕ → Float → ℕ × SmallSettings
+smallCase u c = cond (proofSizeOut u) (30, zeros) (cond (completenessOut c) (31, zeros) (0, smallSettings u c))
+
+-- 01's number and the settings for each answer of the small case
+abbrev pub smallCaseNumber : SmallCase → ℕ × SmallSettings
+smallCaseNumber (small.Settings s) = (0, s)
+smallCaseNumber small.ProofSizeRefused = (30, zeros)
+smallCaseNumber small.CompletenessRefused = (31, zeros)

@@ -1,0 +1,154 @@
+// The settings, their limits, and the settings of the small case.
+
+use sampling::Threshold;
+use sampling::Words;
+ghost use mathlib.Core.Path.{_≡_};
+ghost use mathlib.Core.Bool.{false};
+ghost use Prim.Native.Nat.{_^_};
+ghost use Rattle.centralized_telescope.specs.Params.{notOneTo, proofSizeOut, limitBroken, checked, checkedNumber, outside, completenessOut, floor, ceil, smallSettings, smallCase, smallCaseNumber};
+
+// What prover and verifier are told.
+pub struct Params {
+    pub set_size: u64,
+    pub proof_size: u64,
+    pub max_retries: u64,
+    pub search_width: u64,
+    pub dfs_bound: u64,
+    pub q: f64,
+}
+
+// What the check of the settings answers. Lawful settings come with the threshold of their q, so that no caller works it out again.
+pub enum Checked {
+    Lawful(Words),
+    SetSizeRefused,
+    LimitRefused,
+    ProbabilityRefused,
+}
+
+// The small case's settings: every one but set_size.
+pub struct SmallSettings {
+    pub proof_size: u64,
+    pub max_retries: u64,
+    pub search_width: u64,
+    pub dfs_bound: u64,
+    pub q: f64,
+}
+
+// What the small case answers.
+pub enum SmallCase {
+    Settings(SmallSettings),
+    ProofSizeRefused,
+    CompletenessRefused,
+}
+
+// Whether n is not 1 to hi.
+fn is_not_one_to(hi: u64, n: u64) -> bool
+    ensures { λ r. ⌜ r ≡ notOneTo hi n ⌝ }
+{
+    if n < 1 {
+        return true;
+    }
+    n > hi
+}
+
+// Whether a limit of another whole number is broken.
+fn is_limit_broken(p: Params) -> bool
+    ensures { λ r. ⌜ r ≡ limitBroken p ⌝ }
+{
+    if p.proof_size > 1_024 {
+        return true;
+    }
+    if p.max_retries > 65_535 {
+        return true;
+    }
+    if p.search_width > 0xffff_ffff {
+        return true;
+    }
+    p.dfs_bound > 0x1_0000_0000_0000
+}
+
+// Lawful, or the first refusal in the table's order.
+pub fn check_params(p: Params) -> Checked
+    ensures { λ r. ⌜ checkedNumber r ≡ checked p ⌝ }
+{
+    if is_not_one_to(32_768, p.set_size) {
+        return Checked::SetSizeRefused;
+    }
+    if is_limit_broken(p) {
+        return Checked::LimitRefused;
+    }
+    let t = sampling::threshold_of(p.q);
+    let Threshold::At(x) = t else {
+        return Checked::ProbabilityRefused;
+    };
+    Checked::Lawful(x)
+}
+
+// The double nearest to ln 12.
+const LN_12: f64 = 2.48490664978800031023;
+
+// The greatest whole number that isn't above x. Up to 2^52 it is the truncation, and both it and the next whole number are doubles.
+fn floor_of(x: f64) -> u64
+    requires { ⌜ outside (2 ^ 52) x ≡ false ⌝ }
+    ensures { λ r. ⌜ r ≡ floor x ⌝ }
+{
+    std::num::truncating_f64_to_u64(x)
+}
+
+// The least whole number that isn't below x: its floor, or one more where the floor is below it.
+fn ceil_of(x: f64) -> u64
+    requires { ⌜ outside (2 ^ 52) x ≡ false ⌝ }
+    ensures { λ r. ⌜ r ≡ ceil x ⌝ }
+{
+    let t = floor_of(x);
+    if (t as f64) < x {
+        return t + 1;
+    }
+    t
+}
+
+// Whether c is no completeness: a NaN, below 0 or above 65,535. Negative zero is zero.
+fn is_completeness_out(c: f64) -> bool
+    ensures { λ r. ⌜ r ≡ completenessOut c ⌝ }
+{
+    if c != c {
+        return true;
+    }
+    if c < 0.0 {
+        return true;
+    }
+    c > 65535.0
+}
+
+// The small case's settings, each operation in the order of the source.
+fn small_settings(u: u64, c: f64) -> SmallSettings
+    requires { ⌜ (proofSizeOut u ≡ false) × (completenessOut c ≡ false) ⌝ }
+    ensures { λ r. ⌜ r ≡ smallSettings u c ⌝ }
+{
+    let size = u as f64;
+    let max_retries = ceil_of(c);
+    let search_width = ceil_of((32.0 * LN_12) * size);
+    let d = search_width as f64;
+    let q = (2.0 * LN_12) * (1.0 / d);
+    let dfs_bound = floor_of(((8.0 * (1.0 / LN_12)) * (size + 1.0)) * d);
+    SmallSettings {
+        proof_size: u,
+        max_retries,
+        search_width,
+        dfs_bound,
+        q,
+    }
+}
+
+// The small case's settings for proofs of u elements with completeness c, or the first refusal in the table's order.
+pub fn param_small_case(u: u64, c: f64) -> SmallCase
+    ensures { λ r. ⌜ smallCaseNumber r ≡ smallCase u c ⌝ }
+{
+    if is_not_one_to(1_024, u) {
+        return SmallCase::ProofSizeRefused;
+    }
+    if is_completeness_out(c) {
+        return SmallCase::CompletenessRefused;
+    }
+    SmallCase::Settings(small_settings(u, c))
+}

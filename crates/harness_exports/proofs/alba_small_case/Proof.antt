@@ -1,0 +1,70 @@
+-- `alba_small_case`: refused by the length lent, or by the answer of `param_small_case`.
+use mathlib.Core.Path.{refl, sym, ap, _∙_}
+use mathlib.Core.List.{List}
+use Prim.Native.Nat.{ℕ}
+use borrow.Author.Needs.{needs}
+use Rattle.sampling.specs.SampleLaws.{inside-no-nan}
+use Rattle.centralized_telescope.specs.Params.{smallCaseNumber, zeros}
+use Rattle.centralized_telescope.specs.SmallCaseLaws.{given-unit}
+use Rattle.harness_exports.proofs.Answer.{not-five, answered}
+use Rattle.harness_exports.proofs.alba_small_case.Statement.{statement}
+use Rattle.harness_exports.proofs.alba_small_case.Tie as tie
+
+returns : tie.Need-returns
+returns c =
+    let z = c .before .before .args in
+    not-five (z .u) (z .c) (z .out .now) (c .if1 .taken)
+
+param-small-case-requires : tie.Need-param-small-case-requires
+param-small-case-requires c κs = search needs
+
+enum-known-answer : tie.Need-enum-known-answer
+enum-known-answer c = search needs
+
+put-settings-requires : tie.Need-put-settings-requires
+put-settings-requires c κs =
+    let z = c .before .before .before .before .before .before .before .args in
+    let a = c .before .before .answer .given in
+    let e = sym (ap smallCaseNumber (a .1)) ∙ c .before .before .before .before .param-small-case .ensures in
+    (search needs, inside-no-nan (a .0 .0 .q) (given-unit (z .u) (z .c) (a .0 .0) e))
+
+enum-told : tie.Need-enum-told
+enum-told c = search needs
+
+enum-told-2 : tie.Need-enum-told-2
+enum-told-2 c = search needs
+
+same-length : tie.Need-same-length
+same-length c = search needs
+
+returns-2 : tie.Need-returns-2
+returns-2 c =
+    let z = c .before .before .before .before .before .before .before .before .before .before .args in
+    let a = c .before .before .before .before .before .answer .given in
+    answered (z .u) (z .c) (z .out .now) 0 (a .0 .0) _ (search needs) (sym (ap smallCaseNumber (a .1)) ∙ c .before .before .before .before .before .before .before .param-small-case .ensures)
+    (ap (λ (l : List ℕ). (0, l)) (c .before .before .put-settings .ensures))
+
+returns-3 : tie.Need-returns-3
+returns-3 c =
+    let z = c .before .before .before .before .before .args in
+    answered (z .u) (z .c) (z .out .now) 30 zeros _ (search needs) (sym (ap smallCaseNumber (c .enum-told .given .1)) ∙ c .before .before .param-small-case .ensures) refl
+
+returns-4 : tie.Need-returns-4
+returns-4 c =
+    let z = c .before .before .before .before .before .args in
+    answered (z .u) (z .c) (z .out .now) 31 zeros _ (search needs) (sym (ap smallCaseNumber (c .enum-told2 .given .1)) ∙ c .before .before .param-small-case .ensures) refl
+
+pub alba-small-case-spec : {M : Type 1} → statement M
+alba-small-case-spec =
+    tie.close
+    (tie.spec
+    returns
+    param-small-case-requires
+    enum-known-answer
+    put-settings-requires
+    enum-told
+    enum-told-2
+    same-length
+    returns-2
+    returns-3
+    returns-4)

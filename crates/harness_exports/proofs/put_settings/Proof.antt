@@ -1,0 +1,44 @@
+-- `put_settings`: five stores.
+use native.Mathlib.Omega.{arith}
+use borrow.Author.Needs.{needs}
+use lib.ListN.{length-set}
+use Rattle.harness_exports.proofs.Answer.{five-set}
+use Rattle.harness_exports.proofs.put_settings.Statement.{statement}
+use Rattle.harness_exports.proofs.put_settings.Tie as tie
+
+slice-write-out : tie.Need-slice-write-out
+slice-write-out c = search needs
+
+slice-write-out-2 : tie.Need-slice-write-out-2
+slice-write-out-2 c = search needs
+
+slice-write-out-3 : tie.Need-slice-write-out-3
+slice-write-out-3 c = search needs
+
+slice-write-out-4 : tie.Need-slice-write-out-4
+slice-write-out-4 c = search needs
+
+float-to-bits-out : tie.Need-float-to-bits-out
+float-to-bits-out c = search needs
+
+slice-write-out-5 : tie.Need-slice-write-out-5
+slice-write-out-5 c = simp length-set (omega arith)
+
+same-length : tie.Need-same-length
+same-length c = search needs
+
+returns : tie.Need-returns
+returns c = five-set (c .before .args .out .now) _ _ _ _ _ (c .before .pre .0)
+
+pub put-settings-spec : {M : Type 1} → statement M
+put-settings-spec =
+    tie.close
+    (tie.spec
+    slice-write-out
+    slice-write-out-2
+    slice-write-out-3
+    slice-write-out-4
+    float-to-bits-out
+    slice-write-out-5
+    same-length
+    returns)
