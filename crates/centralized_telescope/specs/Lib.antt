@@ -3,3 +3,4 @@ pub mod Params
 pub mod ParamsLaws
 pub mod SmallCaseLaws
 pub mod ParamsCases
+pub mod Elements

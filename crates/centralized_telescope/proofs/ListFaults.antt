@@ -1,0 +1,60 @@
+-- The faults of a lent list, looked for from the front: what one place settles, and what it leaves to the places behind it.
+use mathlib.Core.Path.{_≡_}
+use mathlib.Core.Bool.{true, false}
+use mathlib.Core.List.{List}
+use Prim.Native.Nat.{ℕ, _+_, _-_, _≤_, _<_}
+use native.Mathlib.Numerals.{add-one}
+use native.Mathlib.Omega.{arith}
+use borrow.Author.Tests.{lt-ltb, le-ltb}
+use lib.ListN.{length, getD, drop, drop-of-length-le}
+use lib.Seq.{drop-cons}
+use Rattle.centralized_telescope.specs.Elements.{markOver, endWrong, dataLong}
+
+-- ---- marks
+
+module _ (ms : List ℕ) (i : ℕ) where
+  pub mark-here : i < length ms → 1 < getD ms i 0 → markOver (drop i ms) ≡ true
+  unfolding markOver
+  mark-here h t = rw (drop-cons ms i 0 h, lt-ltb 1 (getD ms i 0) t)
+
+  pub mark-behind : i < length ms → getD ms i 0 ≤ 1 → markOver (drop i ms) ≡ markOver (drop (i + 1) ms)
+  unfolding markOver
+  mark-behind h t = rw (add-one, drop-cons ms i 0 h, le-ltb 1 (getD ms i 0) t)
+
+  pub marks-done : length ms ≤ i → markOver (drop i ms) ≡ false
+  unfolding markOver
+  marks-done h = rw (drop-of-length-le ms {i = i} h)
+
+-- ---- ends: `from` is the end before the place i, x the one at i
+
+module _ (es : List ℕ) (i from limit x : ℕ) where
+  pub end-falls : i < length es → x ≡ getD es i 0 → x < from → endWrong from limit (drop i es) ≡ true
+  unfolding endWrong
+  end-falls h e t = rw (drop-cons es i 0 h, ← e, lt-ltb x from t)
+
+  pub end-passes : i < length es → x ≡ getD es i 0 → from ≤ x → limit < x → endWrong from limit (drop i es) ≡ true
+  unfolding endWrong
+  end-passes h e s t = rw (drop-cons es i 0 h, ← e, le-ltb x from s, lt-ltb limit x t)
+
+  pub end-behind : i < length es → x ≡ getD es i 0 → from ≤ x → x ≤ limit → endWrong from limit (drop i es) ≡ endWrong x limit (drop (i + 1) es)
+  unfolding endWrong
+  end-behind h e s t = rw (add-one, drop-cons es i 0 h, ← e, le-ltb x from s, le-ltb limit x t)
+
+  pub ends-done : length es ≤ i → endWrong from limit (drop i es) ≡ false
+  unfolding endWrong
+  ends-done h = rw (drop-of-length-le es {i = i} h)
+
+-- ---- data
+
+module _ (es : List ℕ) (i from x : ℕ) where
+  pub data-here : i < length es → x ≡ getD es i 0 → 4096 + from < x → dataLong from (drop i es) ≡ true
+  unfolding dataLong
+  data-here h e t = rw (drop-cons es i 0 h, ← e, lt-ltb 4096 (x - from) (omega arith))
+
+  pub data-behind : i < length es → x ≡ getD es i 0 → x ≤ 4096 + from → dataLong from (drop i es) ≡ dataLong x (drop (i + 1) es)
+  unfolding dataLong
+  data-behind h e t = rw (add-one, drop-cons es i 0 h, ← e, le-ltb 4096 (x - from) (omega arith))
+
+  pub data-done : length es ≤ i → dataLong from (drop i es) ≡ false
+  unfolding dataLong
+  data-done h = rw (drop-of-length-le es {i = i} h)

@@ -1,0 +1,76 @@
+-- Document 01, Elements, and the two lines of its table that are about a list.
+use mathlib.Core.Bool.{Bool, false, cond, not, _||_}
+use mathlib.Core.List.{List, [], _∷_, _++_}
+use mathlib.Core.Option.{Option, none, some}
+use Prim.Native.Nat.{ℕ, _-_}
+use lib.Dec.{ltb, eqb}
+use lib.ListN.{length, take, drop}
+use Rattle.sampling.specs.BigEndian.{bytesOf}
+use Rattle.centralized_telescope.specs.declared.types.ListCheck.{ListCheck}
+use Rattle.centralized_telescope.specs.declared.types.ListCheck.the-variants as check
+
+-- ---- "An element is data bytes and perhaps an index (u64)."
+
+pub record Element : Type 0 where
+  pub bytes : List ℕ
+  pub index : Option ℕ
+
+-- "Tail(e) is the data followed, if the mark is 1, by the index in 8 big-endian bytes."
+abbrev pub indexBytes : Option ℕ → List ℕ
+indexBytes none = []
+indexBytes (some n) = bytesOf 8 n
+
+unfoldable pub tail : Element → List ℕ
+tail e = e .bytes ++ indexBytes (e .index)
+
+-- ---- "A list is lent as data bytes, ends (u32: where each element's data stops, the first starting at 0), marks (a byte each: 0 no
+-- index, 1 index) and indexes (u64, not read where the mark is 0)."
+
+abbrev pub indexOf : ℕ → ℕ → Option ℕ
+indexOf mark n = cond (eqb mark 1) (some n) none
+
+-- the elements whose data starts at `from`
+unfoldable pub elementsFrom : ℕ → List ℕ → List ℕ → List ℕ → List ℕ → List Element
+elementsFrom from bytes [] marks indexes = []
+elementsFrom from bytes (end ∷ ends) [] indexes = []
+elementsFrom from bytes (end ∷ ends) (mark ∷ marks) [] = []
+elementsFrom from bytes (end ∷ ends) (mark ∷ marks) (n ∷ indexes) =
+    record { bytes = take (end - from) (drop from bytes); index = indexOf mark n } ∷ elementsFrom end bytes ends marks indexes
+
+-- what a lent list means
+abbrev pub elements : List ℕ → List ℕ → List ℕ → List ℕ → List Element
+elements bytes ends marks indexes = elementsFrom 0 bytes ends marks indexes
+
+-- ---- list, 4: "ends, marks, indexes differ in length; a mark over 1; an end that falls or passes the data"
+
+unfoldable pub markOver : List ℕ → Bool
+markOver [] = false
+markOver (mark ∷ marks) = ltb 1 mark || markOver marks
+
+-- of ends behind one at `from`, with so many data bytes
+unfoldable pub endWrong : ℕ → ℕ → List ℕ → Bool
+endWrong from limit [] = false
+endWrong from limit (end ∷ ends) = ltb end from || (ltb limit end || endWrong end limit ends)
+
+unfoldable pub malformed : List ℕ → List ℕ → List ℕ → List ℕ → Bool
+malformed bytes ends marks indexes =
+    not (eqb (length ends) (length marks)) || (not (eqb (length ends) (length indexes)) || (markOver marks || endWrong 0 (length bytes) ends))
+
+-- ---- list, 5: "over 65,536 elements, or over 4,096 data bytes in one"
+
+unfoldable pub dataLong : ℕ → List ℕ → Bool
+dataLong from [] = false
+dataLong from (end ∷ ends) = ltb 4096 (end - from) || dataLong end ends
+
+unfoldable pub tooLarge : List ℕ → Bool
+tooLarge ends = ltb 65536 (length ends) || dataLong 0 ends
+
+-- the list's number: 4, then 5, or 0 where it is accepted
+unfoldable pub listCheck : List ℕ → List ℕ → List ℕ → List ℕ → ℕ
+listCheck bytes ends marks indexes = cond (malformed bytes ends marks indexes) 4 (cond (tooLarge ends) 5 0)
+
+-- 01's number for each answer of the check
+abbrev pub listNumber : ListCheck → ℕ
+listNumber check.Accepted = 0
+listNumber check.Malformed = 4
+listNumber check.TooLarge = 5
