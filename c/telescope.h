@@ -1,5 +1,6 @@
 /*
- * The sampler of the centralized telescope, for C and C++. Link libsampling.a (x86-64, ELF); it needs no other library.
+ * The centralized telescope's sampler and verifier, for C and C++. Link libsampling.a for the sampler and libcentralized_telescope.a
+ * for the verifier (x86-64, ELF); neither needs another library than C's own.
  *
  * No function has a precondition on its values: each input gets one of the answers below. A pointer must be valid for the length
  * that follows it, for reads (const) or for writes; with length 0 it may be null. What is lent for writing must not overlap what is
@@ -27,10 +28,22 @@ extern "C" {
 #define ALBA_NO 0u
 #define ALBA_YES 1u
 
-/* Refusals. */
+/* Answer of alba_verify. */
+#define ALBA_ACCEPTED 0u
+
+/* Refusals of the sampler; the first is the verifier's too. */
 #define ALBA_BAD_PROBABILITY 3u /* q is below 0, above 1 or NaN */
 #define ALBA_BAD_RANGE 7u       /* n is 0 */
 #define ALBA_BAD_LENGTH 8u      /* h_len is not 16, or out_len is not 8 */
+
+/* Refusals of the verifier. */
+#define ALBA_BAD_SET_SIZE 1u               /* set_size is not 1 to 32768 */
+#define ALBA_BAD_LIMIT 2u                  /* proof_size, max_retries, search_width or dfs_bound is over its limit */
+#define ALBA_MALFORMED 4u                  /* ends, marks and indexes don't make a list over the data */
+#define ALBA_TOO_LARGE 5u                  /* over 65536 elements, or over 4096 data bytes in one */
+#define ALBA_INCORRECT_NUMBER_ELEMENTS 20u /* the list's length is not proof_size */
+#define ALBA_INVALID_PARAMETERS 21u        /* search_counter >= search_width, or retry_counter >= max_retries */
+#define ALBA_INVALID_PROOF 22u             /* the chain of the elements doesn't exist or doesn't pass */
 
 /*
  * Draws a number from 0 to n - 1 out of the 16 bytes of h.
@@ -59,6 +72,37 @@ uint32_t alba_sample_uniform(const uint8_t *h, size_t h_len, uint64_t n, uint8_t
  * Answers ALBA_BAD_LENGTH if h_len is wrong; else ALBA_BAD_PROBABILITY; else ALBA_YES or ALBA_NO.
  */
 uint32_t alba_sample_bernoulli(const uint8_t *h, size_t h_len, double q);
+
+/*
+ * Says whether a proof, two counters and a list of elements, is accepted under the settings.
+ *
+ * The settings:
+ * set_size        how many elements the prover is known to have at least: 1 to 32768
+ * proof_size      how many elements a proof has: 0 to 1024
+ * max_retries     the retry counter must be below it: 0 to 65535
+ * search_width    the search counter must be below it: 0 to 2^32 - 1
+ * dfs_bound       the prover's bound on its steps, which the verdict doesn't depend on: 0 to 2^48
+ * q               the probability with which a chain passes: 0 to 1, both included; negative zero is zero
+ *
+ * The proof:
+ * retry_counter   the prover's try
+ * search_counter  the start within that try
+ * data            the data bytes of all elements, one element's after the other's; they may go on behind the last
+ * ends            4 bytes for each element, big-endian: where its data stops, counted from the start of data; the first element's
+ *                 starts at 0, each other's where the one's before it stops
+ * marks           a byte for each element: 1 if it has an index, else 0
+ * indexes         8 bytes for each element, big-endian: its index; not looked at where the mark is 0
+ *
+ * Each ..._len is a count of bytes, so ends_len is 4 times and indexes_len 8 times marks_len.
+ *
+ * Answers the first of these that it meets: ALBA_BAD_SET_SIZE; ALBA_BAD_LIMIT; ALBA_BAD_PROBABILITY; ALBA_MALFORMED, if ends_len is
+ * no multiple of 4 or indexes_len none of 8, if the counts differ, if a mark is over 1, or if an end is before the one before it or
+ * past data_len; ALBA_TOO_LARGE; ALBA_INCORRECT_NUMBER_ELEMENTS; ALBA_INVALID_PARAMETERS; ALBA_INVALID_PROOF. Else ALBA_ACCEPTED.
+ * It takes time in proportion to what it is lent, and about 16 KB of stack.
+ */
+uint32_t alba_verify(uint64_t set_size, uint64_t proof_size, uint64_t max_retries, uint64_t search_width, uint64_t dfs_bound, double q,
+                     uint64_t retry_counter, uint64_t search_counter, const uint8_t *data, size_t data_len, const uint8_t *ends,
+                     size_t ends_len, const uint8_t *marks, size_t marks_len, const uint8_t *indexes, size_t indexes_len);
 
 #ifdef __cplusplus
 }

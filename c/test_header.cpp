@@ -5,5 +5,6 @@ int main() {
     const uint8_t h[ALBA_HASH_BYTES] = {};
     uint8_t out[ALBA_DRAW_BYTES];
     const bool drawn = alba_sample_uniform(h, sizeof h, 10, out, sizeof out) == ALBA_DRAWN && out[ALBA_DRAW_BYTES - 1] == 0;
-    return drawn && alba_sample_bernoulli(h, sizeof h, 0.5) == ALBA_YES ? 0 : 1;
+    const bool accepted = alba_verify(1, 0, 1, 1, 0, 1.0, 0, 0, nullptr, 0, nullptr, 0, nullptr, 0, nullptr, 0) == ALBA_ACCEPTED;
+    return drawn && accepted && alba_sample_bernoulli(h, sizeof h, 0.5) == ALBA_YES ? 0 : 1;
 }

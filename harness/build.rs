@@ -2,7 +2,7 @@
 
 use std::{env, path::PathBuf, process};
 
-const LIBRARIES: [&str; 2] = ["sampling", "harness_exports"];
+const LIBRARIES: [&str; 3] = ["sampling", "centralized_telescope", "harness_exports"];
 
 fn main() {
     println!("cargo:rerun-if-env-changed=ALBA_STATICLIB");

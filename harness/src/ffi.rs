@@ -20,18 +20,95 @@ extern "C" {
         out: *mut u8,
         out_len: usize,
     ) -> u32;
+    #[rustfmt::skip]
+    fn alba_check_distinct(
+        data: *const u8,
+        data_len: usize,
+        ends: *const u32,
+        ends_len: usize,
+        marks: *const u8,
+        marks_len: usize,
+        indexes: *const u64,
+        indexes_len: usize,
+    ) -> u32;
+    #[rustfmt::skip]
+    fn alba_prove(
+        set_size: u64,
+        proof_size: u64,
+        max_retries: u64,
+        search_width: u64,
+        dfs_bound: u64,
+        q: f64,
+        data: *const u8,
+        data_len: usize,
+        ends: *const u32,
+        ends_len: usize,
+        marks: *const u8,
+        marks_len: usize,
+        indexes: *const u64,
+        indexes_len: usize,
+        places: *mut u32,
+        places_len: usize,
+        bins: *mut u32,
+        bins_len: usize,
+        out: *mut u64,
+        out_len: usize,
+    ) -> u32;
+    #[rustfmt::skip]
+    fn alba_verify(
+        set_size: u64,
+        proof_size: u64,
+        max_retries: u64,
+        search_width: u64,
+        dfs_bound: u64,
+        q: f64,
+        retry_counter: u64,
+        search_counter: u64,
+        data: *const u8,
+        data_len: usize,
+        ends: *const u8,
+        ends_len: usize,
+        marks: *const u8,
+        marks_len: usize,
+        indexes: *const u8,
+        indexes_len: usize,
+    ) -> u32;
 }
 
+/// set_size is out of range.
+pub const BAD_SET_SIZE: u32 = 1;
+/// Another whole-number limit of the settings is broken.
+pub const BAD_LIMIT: u32 = 2;
 /// No draw, the uniform sampler's second answer beside 0.
 pub const NO_DRAW: u32 = 1;
+/// Two elements have equal data bytes, the second answer on distinctness beside 0.
+pub const REPEATED: u32 = 1;
 /// q is below 0, above 1 or not a number.
 pub const BAD_Q: u32 = 3;
+/// The four slices make no list.
+pub const BAD_LIST: u32 = 4;
+/// Too many elements, or too long a one.
+pub const TOO_LARGE: u32 = 5;
+/// A workspace is too short.
+pub const TOO_SHORT: u32 = 6;
 /// n is 0.
 pub const BAD_N: u32 = 7;
 /// A length that is not the one wanted.
 pub const BAD_LENGTH: u32 = 8;
 /// Over `LONGEST` bytes joined.
 pub const TOO_LONG: u32 = 9;
+/// Fewer elements than set_size.
+pub const NOT_ENOUGH: u32 = 10;
+/// No proof, and the bound was reached.
+pub const NOT_FOUND_IN_BOUNDS: u32 = 11;
+/// No proof.
+pub const NOT_FOUND: u32 = 12;
+/// The proof's length isn't proof_size.
+pub const WRONG_NUMBER: u32 = 20;
+/// A counter of the proof is out of range.
+pub const INVALID_PARAMETERS: u32 = 21;
+/// The proof's chain doesn't exist or doesn't pass.
+pub const INVALID_PROOF: u32 = 22;
 /// u is not 1 to 1,024.
 pub const BAD_U: u32 = 30;
 /// c is not a number, below 0 or above 65,535.
@@ -39,26 +116,46 @@ pub const BAD_C: u32 = 31;
 /// The most bytes that the four strings of a hash may have together.
 pub const LONGEST: usize = 1 << 29;
 
-/// Bytes lent to be read; `None` is a null pointer with length 0.
-pub type Lent<'a> = Option<&'a [u8]>;
+/// Bytes or numbers lent to be read; `None` is a null pointer with length 0.
+pub type Lent<'a, T = u8> = Option<&'a [T]>;
 
-fn parts(lent: Lent) -> (*const u8, usize) {
-    lent.map_or((std::ptr::null(), 0), |bytes| (bytes.as_ptr(), bytes.len()))
+fn parts<T>(lent: Lent<T>) -> (*const T, usize) {
+    lent.map_or((std::ptr::null(), 0), |numbers| (numbers.as_ptr(), numbers.len()))
 }
 
 /// A place lent to be written: where it starts and its length.
 ///
 /// # Safety
-/// The bytes are valid for writes, or the length is 0.
-pub unsafe trait Place {
-    fn parts(&mut self) -> (*mut u8, usize);
+/// The numbers are valid for writes, or the length is 0.
+pub unsafe trait Place<T = u8> {
+    fn parts(&mut self) -> (*mut T, usize);
 }
 
 // SAFETY: a slice is valid for its own length.
-unsafe impl Place for [u8] {
-    fn parts(&mut self) -> (*mut u8, usize) {
+unsafe impl<T> Place<T> for [T] {
+    fn parts(&mut self) -> (*mut T, usize) {
         (self.as_mut_ptr(), self.len())
     }
+}
+
+/// The settings of prover and verifier.
+#[derive(Clone, Copy, Debug)]
+pub struct Settings {
+    pub set_size: u64,
+    pub proof_size: u64,
+    pub max_retries: u64,
+    pub search_width: u64,
+    pub dfs_bound: u64,
+    pub q: f64,
+}
+
+/// A list of elements as it is lent: to the prover with ends and indexes as numbers, to the verifier with both in big-endian bytes.
+#[derive(Clone, Copy)]
+pub struct Listed<'a, End, Index> {
+    pub data: Lent<'a>,
+    pub ends: Lent<'a, End>,
+    pub marks: Lent<'a>,
+    pub indexes: Lent<'a, Index>,
 }
 
 /// `BAD_N`, then `BAD_LENGTH` (h not of 16 bytes, or out not of 8), `NO_DRAW`, or 0 with the value big-endian in `out`.
@@ -89,4 +186,58 @@ pub fn sha256(strings: [Lent; 4], out: &mut (impl Place + ?Sized)) -> u32 {
 pub fn small_case(u: u64, c: f64, out: &mut [u64]) -> u32 {
     // SAFETY: the pointer is valid for reads and writes of its length.
     unsafe { alba_small_case(u, c, out.as_mut_ptr(), out.len()) }
+}
+
+/// `MALFORMED`, then `TOO_LARGE`, otherwise 0 for a list in which no two elements have equal data bytes and `REPEATED` for another.
+pub fn check_distinct(data: &[u8], ends: &[u32], marks: &[u8], indexes: &[u64]) -> u32 {
+    // SAFETY: each pointer is valid for reads of its length.
+    unsafe {
+        alba_check_distinct(
+            data.as_ptr(),
+            data.len(),
+            ends.as_ptr(),
+            ends.len(),
+            marks.as_ptr(),
+            marks.len(),
+            indexes.as_ptr(),
+            indexes.len(),
+        )
+    }
+}
+
+/// 0, or the number of the refusal or of a search that found nothing. If `out` has three numbers or more, the first three take R, S
+/// (0 without a proof) and the step count (0 with a refusal).
+#[rustfmt::skip]
+pub fn prove(
+    s: &Settings,
+    list: Listed<u32, u64>,
+    places: &mut (impl Place<u32> + ?Sized),
+    bins: &mut (impl Place<u32> + ?Sized),
+    out: &mut (impl Place<u64> + ?Sized),
+) -> u32 {
+    let ((data, data_len), (ends, ends_len)) = (parts(list.data), parts(list.ends));
+    let ((marks, marks_len), (indexes, indexes_len)) = (parts(list.marks), parts(list.indexes));
+    let ((places, places_len), (bins, bins_len), (out, out_len)) = (places.parts(), bins.parts(), out.parts());
+    // SAFETY: each pointer is valid for its length, those of the list for reads and the last three for reads and writes.
+    unsafe {
+        alba_prove(
+            s.set_size, s.proof_size, s.max_retries, s.search_width, s.dfs_bound, s.q,
+            data, data_len, ends, ends_len, marks, marks_len, indexes, indexes_len,
+            places, places_len, bins, bins_len, out, out_len,
+        )
+    }
+}
+
+/// 0 for a proof that is accepted, or the number.
+#[rustfmt::skip]
+pub fn verify(s: &Settings, retry_counter: u64, search_counter: u64, list: Listed<u8, u8>) -> u32 {
+    let ((data, data_len), (ends, ends_len)) = (parts(list.data), parts(list.ends));
+    let ((marks, marks_len), (indexes, indexes_len)) = (parts(list.marks), parts(list.indexes));
+    // SAFETY: each pointer is valid for reads of its length.
+    unsafe {
+        alba_verify(
+            s.set_size, s.proof_size, s.max_retries, s.search_width, s.dfs_bound, s.q, retry_counter, search_counter,
+            data, data_len, ends, ends_len, marks, marks_len, indexes, indexes_len,
+        )
+    }
 }

@@ -1,11 +1,14 @@
-//! Compares the verified library with the Rust that it is made from (`compare`), and measures both (`bench`).
+//! Compares the verified library with the Rust that it is made from (`compare`), and measures both (`bench`, `stack`).
 
 mod args;
 #[cfg(feature = "bench")]
 mod bench;
 mod compare;
 mod ffi;
+mod list;
+mod original;
 mod rng;
+mod stack;
 
 use args::Command;
 use std::process::ExitCode;
@@ -38,6 +41,7 @@ fn main() -> ExitCode {
         }
         Command::Compare(options) => compare::run(&options),
         Command::Bench(setting) => bench::run(setting),
+        Command::Stack(depth) => stack::run(depth),
     };
     match done {
         Ok(()) => ExitCode::SUCCESS,

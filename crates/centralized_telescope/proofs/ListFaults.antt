@@ -1,11 +1,12 @@
 -- The faults of a lent list, looked for from the front: what one place settles, and what it leaves to the places behind it.
-use mathlib.Core.Path.{_≡_}
-use mathlib.Core.Bool.{true, false}
-use mathlib.Core.List.{List}
-use Prim.Native.Nat.{ℕ, _+_, _-_, _≤_, _<_}
+use mathlib.Core.Path.{_≡_, refl, sym, _∙_}
+use mathlib.Core.Bool.{Bool, true, false, _||_}
+use mathlib.Core.List.{List, [], _∷_}
+use Prim.Native.Nat.{ℕ, suc, _+_, _-_, _≤_, _<_}
 use native.Mathlib.Numerals.{add-one}
 use native.Mathlib.Omega.{arith}
 use borrow.Author.Tests.{lt-ltb, le-ltb}
+use lib.Dec.{ltb}
 use lib.ListN.{length, getD, drop, drop-of-length-le}
 use lib.Seq.{drop-cons}
 use Rattle.centralized_telescope.specs.Elements.{markOver, endWrong, dataLong}
@@ -58,3 +59,27 @@ module _ (es : List ℕ) (i from x : ℕ) where
   pub data-done : length es ≤ i → dataLong from (drop i es) ≡ false
   unfolding dataLong
   data-done h = rw (drop-of-length-le es {i = i} h)
+
+-- ---- one place at a time, where what is found so far is kept: before is it, after it with what is found at the place i
+
+or-regroup : (w a b r : Bool) → (w || (a || (b || false))) || r ≡ w || (a || (b || r))
+or-regroup true a b r = refl
+or-regroup false true b r = refl
+or-regroup false false true r = refl
+or-regroup false false false r = refl
+
+module _ (es : List ℕ) (i from x : ℕ) (before here after : Bool) (h : i < length es) (e : x ≡ getD es i 0) (A : after ≡ before || here) where
+  pub end-found : (limit : ℕ) → here ≡ endWrong from limit (x ∷ []) → after || endWrong x limit (drop (i + 1) es) ≡ before || endWrong from limit (drop i es)
+  unfolding endWrong
+  end-found limit q =
+      rw (add-one i, drop-cons es i 0 h, ← e, A, q) (or-regroup before (ltb x from) (ltb limit x) (endWrong x limit (drop (suc i) es)))
+
+  pub data-found : here ≡ dataLong from (x ∷ []) → after || dataLong x (drop (i + 1) es) ≡ before || dataLong from (drop i es)
+  unfolding dataLong
+  data-found q =
+      rw (add-one i, drop-cons es i 0 h, ← e, A, q) (or-regroup before false (ltb 4096 (x - from)) (dataLong x (drop (suc i) es)))
+
+-- no place is left
+pub none-left : (found rest whole : Bool) → rest ≡ false → found || rest ≡ whole → found ≡ whole
+none-left true rest whole e f = f
+none-left false rest whole e f = sym e ∙ f

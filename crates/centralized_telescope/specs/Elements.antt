@@ -4,7 +4,7 @@ use mathlib.Core.List.{List, [], _∷_, _++_}
 use mathlib.Core.Option.{Option, none, some}
 use Prim.Native.Nat.{ℕ, _-_}
 use lib.Dec.{ltb, eqb}
-use lib.ListN.{length, take, drop}
+use lib.ListN.{length, take, drop, getD}
 use Rattle.sampling.specs.BigEndian.{bytesOf}
 use Rattle.centralized_telescope.specs.declared.types.ListCheck.{ListCheck}
 use Rattle.centralized_telescope.specs.declared.types.ListCheck.the-variants as check
@@ -14,6 +14,15 @@ use Rattle.centralized_telescope.specs.declared.types.ListCheck.the-vari
 pub record Element : Type 0 where
   pub bytes : List ℕ
   pub index : Option ℕ
+
+-- an index as it is lent: its mark and its number, both 0 where there is none
+abbrev pub markOf : Option ℕ → ℕ
+markOf none = 0
+markOf (some n) = 1
+
+abbrev pub numberOf : Option ℕ → ℕ
+numberOf none = 0
+numberOf (some n) = n
 
 -- "Tail(e) is the data followed, if the mark is 1, by the index in 8 big-endian bytes."
 abbrev pub indexBytes : Option ℕ → List ℕ
@@ -40,6 +49,24 @@ elementsFrom from bytes (end ∷ ends) (mark ∷ marks) (n ∷ indexes) =
 -- what a lent list means
 abbrev pub elements : List ℕ → List ℕ → List ℕ → List ℕ → List Element
 elements bytes ends marks indexes = elementsFrom 0 bytes ends marks indexes
+
+-- the element at a place of a list
+unfoldable pub elementAt : List Element → ℕ → Element
+elementAt es place = getD es place (record { bytes = []; index = none })
+
+-- ---- one place of a lent list, as the code reads it: `ElementsLaws` ties it to `elementAt`
+
+-- where the data of the element at a place starts: "the first starting at 0", each other at the end before it
+unfoldable pub startAt : List ℕ → ℕ → ℕ
+startAt ends place = getD (0 ∷ ends) place 0
+
+-- its data bytes
+unfoldable pub dataAt : List ℕ → List ℕ → ℕ → List ℕ
+dataAt bytes ends place = take (getD ends place 0 - startAt ends place) (drop (startAt ends place) bytes)
+
+-- its index, if it has one
+abbrev pub indexAt : List ℕ → List ℕ → ℕ → Option ℕ
+indexAt marks indexes place = indexOf (getD marks place 0) (getD indexes place 0)
 
 -- ---- list, 4: "ends, marks, indexes differ in length; a mark over 1; an end that falls or passes the data"
 
@@ -68,6 +95,11 @@ tooLarge ends = ltb 65536 (length ends) || dataLong 0 ends
 -- the list's number: 4, then 5, or 0 where it is accepted
 unfoldable pub listCheck : List ℕ → List ℕ → List ℕ → List ℕ → ℕ
 listCheck bytes ends marks indexes = cond (malformed bytes ends marks indexes) 4 (cond (tooLarge ends) 5 0)
+
+-- the same number by what is found in a list: the lengths of ends, marks and indexes; a mark over 1, a wrong end, over-long data
+abbrev pub foundNumber : ℕ → ℕ → ℕ → Bool → Bool → Bool → ℕ
+foundNumber n m x over wrong long =
+    cond (not (eqb n m) || (not (eqb n x) || (over || wrong))) 4 (cond (ltb 65536 n || long) 5 0)
 
 -- 01's number for each answer of the check
 abbrev pub listNumber : ListCheck → ℕ

@@ -1,13 +1,30 @@
 // The centralized telescope over what `sampling` promises. What is named here is all that a user sees.
 
+mod bins;
+mod exports;
+mod misc;
 mod params;
+mod proof;
+mod proof_list;
+mod round;
+mod telescope;
 mod types;
 
+pub use misc::Distinctness;
+pub use misc::check_distinct;
 pub use params::Checked;
 pub use params::Params;
 pub use params::SmallCase;
 pub use params::SmallSettings;
 pub use params::check_params;
 pub use params::param_small_case;
+pub use proof::ProofSearch;
+pub use proof::Verdict;
+pub use proof_list::Written;
+pub use proof_list::write_proof;
+pub use round::RetryCounter;
+pub use round::SearchCounter;
+pub use telescope::prove;
+pub use telescope::verify;
 pub use types::ListCheck;
 pub use types::check_list;

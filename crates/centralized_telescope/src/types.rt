@@ -1,8 +1,10 @@
 // Elements as they are lent: data bytes, ends, marks and indexes. All that is known of a lent list elsewhere comes from here.
 ghost use mathlib.Core.Path.{_≡_};
+ghost use mathlib.Core.Bool.{false};
 ghost use Prim.Native.Nat.{_<_, _≤_};
-ghost use lib.ListN.{length, getD};
-ghost use Rattle.centralized_telescope.specs.Elements.{markOver, endWrong, dataLong, listCheck, listNumber};
+ghost use lib.ListN.{length, take};
+ghost use Rattle.centralized_telescope.specs.Elements.{markOver, endWrong, dataLong, foundNumber, listCheck, listNumber, startAt, dataAt, indexAt, indexBytes, markOf, numberOf};
+use sampling::eight_bytes;
 
 // What the check of a lent list answers.
 pub enum ListCheck {
@@ -14,7 +16,7 @@ pub enum ListCheck {
 }
 
 // Whether a mark is neither 0 nor 1.
-fn some_mark_over(marks: &[u8]) -> bool
+pub fn some_mark_over(marks: &[u8]) -> bool
     ensures { λ r. ⌜ r ≡ markOver (now (marks .entry)) ⌝ }
 {
     let mut i = 0;
@@ -27,11 +29,11 @@ fn some_mark_over(marks: &[u8]) -> bool
     false
 }
 
-// Whether an end is before the one before it, or past the data.
-fn some_end_wrong(ends: &[u32], limit: usize) -> bool
-    ensures { λ r. ⌜ r ≡ endWrong 0 limit (now (ends .entry)) ⌝ }
+// Whether an end is before the one before it, or past the data. Before the first there is one at `first`: the list may be a part.
+pub fn some_end_wrong(ends: &[u32], first: u32, limit: usize) -> bool
+    ensures { λ r. ⌜ r ≡ endWrong first limit (now (ends .entry)) ⌝ }
 {
-    let mut from: usize = 0;
+    let mut from = wide(first);
     let mut i = 0;
     while i < ends.len() {
         let end = wide(ends[i]);
@@ -47,11 +49,11 @@ fn some_end_wrong(ends: &[u32], limit: usize) -> bool
     false
 }
 
-// Whether an element has over 4,096 data bytes, the ends being ascending.
-fn some_data_long(ends: &[u32]) -> bool
-    ensures { λ r. ⌜ r ≡ dataLong 0 (now (ends .entry)) ⌝ }
+// Whether an element has over 4,096 data bytes, the data of the first starting at `first`.
+pub fn some_data_long(ends: &[u32], first: u32) -> bool
+    ensures { λ r. ⌜ r ≡ dataLong first (now (ends .entry)) ⌝ }
 {
-    let mut from: usize = 0;
+    let mut from = wide(first);
     let mut i = 0;
     while i < ends.len() {
         let end = wide(ends[i]);
@@ -64,34 +66,124 @@ fn some_data_long(ends: &[u32]) -> bool
     false
 }
 
-// An end as a place in the data.
-fn wide(x: u32) -> usize
+// A number of a list, such as an end, as a place.
+pub fn wide(x: u32) -> usize
     ensures { λ r. ⌜ (r ≡ x) × (r < 4294967296) ⌝ }
 {
     x as usize
 }
 
-// Whether a lent list is accepted. Any fault that is number 4, anywhere in the list, comes before any that is 5.
-pub fn check_list(data: &[u8], ends: &[u32], marks: &[u8], indexes: &[u64]) -> ListCheck
-    ensures { λ r. ⌜ listNumber r ≡ listCheck (now («data» .entry)) (now (ends .entry)) (now (marks .entry)) (now (indexes .entry)) ⌝ }
+// The answer by what is found in a list, lengths and faults. Any fault that is number 4, anywhere in the list, comes before any that is 5.
+pub fn list_answer(
+    ends: usize,
+    marks: usize,
+    indexes: usize,
+    mark_over: bool,
+    end_wrong: bool,
+    data_long: bool,
+) -> ListCheck
+    ensures { λ r. ⌜ listNumber r ≡ foundNumber ends marks indexes «mark_over» «end_wrong» «data_long» ⌝ }
 {
-    if ends.len() != marks.len() {
+    if ends != marks {
         return ListCheck::Malformed;
     }
-    if ends.len() != indexes.len() {
+    if ends != indexes {
         return ListCheck::Malformed;
     }
-    if some_mark_over(marks) {
+    if mark_over {
         return ListCheck::Malformed;
     }
-    if some_end_wrong(ends, data.len()) {
+    if end_wrong {
         return ListCheck::Malformed;
     }
-    if 65536 < ends.len() {
+    if 65536 < ends {
         return ListCheck::TooLarge;
     }
-    if some_data_long(ends) {
+    if data_long {
         return ListCheck::TooLarge;
     }
     ListCheck::Accepted
+}
+
+// Whether a lent list is accepted.
+pub fn check_list(data: &[u8], ends: &[u32], marks: &[u8], indexes: &[u64]) -> ListCheck
+    ensures { λ r. ⌜ listNumber r ≡ listCheck (now («data» .entry)) (now (ends .entry)) (now (marks .entry)) (now (indexes .entry)) ⌝ }
+{
+    let mark_over = some_mark_over(marks);
+    let end_wrong = some_end_wrong(ends, 0, data.len());
+    let data_long = some_data_long(ends, 0);
+    list_answer(
+        ends.len(),
+        marks.len(),
+        indexes.len(),
+        mark_over,
+        end_wrong,
+        data_long,
+    )
+}
+
+// ---- One place of an accepted list. The rest of the crate reads data, ends, marks and indexes by `data_of`, `index_bytes` and `index_of` alone.
+
+// An element's index as it is hashed: the first `len` of the bytes, 8 of them or none.
+pub struct IndexBytes {
+    pub bytes: [u8; 8],
+    pub len: usize,
+}
+
+// An element's index as it is lent: the mark 1 and the index, or 0 and 0.
+pub struct Index {
+    pub mark: u8,
+    pub number: u64,
+}
+
+// Where the data of the element at a place starts: at the end before it.
+fn start_of(ends: &[u32], place: usize) -> usize
+    requires { ⌜ place < length (now ends) ⌝ }
+    ensures { λ r. ⌜ r ≡ startAt (now (ends .entry)) place ⌝ }
+{
+    if place == 0 {
+        return 0;
+    }
+    wide(ends[place - 1])
+}
+
+// The data bytes of the element at a place: a part of the lent data.
+pub fn data_of<'a>(data: &'a [u8], ends: &[u32], place: usize) -> &'a [u8]
+    requires { ⌜ (endWrong 0 (length (now «data»)) (now ends) ≡ false) × (place < length (now ends)) ⌝ }
+    ensures { λ r. ⌜ now r ≡ dataAt (now («data» .entry)) (now (ends .entry)) place ⌝ }
+{
+    let start = start_of(ends, place);
+    let end = wide(ends[place]);
+    &data[start..end]
+}
+
+// The index of the element at a place. Where the mark is 0 the index is not read.
+pub fn index_bytes(marks: &[u8], indexes: &[u64], place: usize) -> IndexBytes
+    requires { ⌜ (place < length (now marks)) × (place < length (now indexes)) ⌝ }
+    ensures { λ r. ⌜ (r .len ≤ length (r .bytes)) × (take (r .len) (r .bytes) ≡ indexBytes (indexAt (now (marks .entry)) (now (indexes .entry)) place)) ⌝ }
+{
+    if marks[place] == 1 {
+        return IndexBytes {
+            bytes: eight_bytes(indexes[place]),
+            len: 8,
+        };
+    }
+    IndexBytes {
+        bytes: [0u8; 8],
+        len: 0,
+    }
+}
+
+// The same index in the form in which it is lent, so that it can be written out.
+pub fn index_of(marks: &[u8], indexes: &[u64], place: usize) -> Index
+    requires { ⌜ (place < length (now marks)) × (place < length (now indexes)) ⌝ }
+    ensures { λ r. ⌜ (r .mark ≡ markOf (indexAt (now (marks .entry)) (now (indexes .entry)) place)) × (r .number ≡ numberOf (indexAt (now (marks .entry)) (now (indexes .entry)) place)) ⌝ }
+{
+    if marks[place] != 1 {
+        return Index { mark: 0, number: 0 };
+    }
+    Index {
+        mark: 1,
+        number: indexes[place],
+    }
 }

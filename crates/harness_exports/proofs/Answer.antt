@@ -1,5 +1,6 @@
 -- The exported calls by their tests.
 use mathlib.Core.Path.{_≡_, ap, _∙_}
+use mathlib.Core.Bool.{Bool}
 use mathlib.Core.List.{List, [], _∷_, _++_, append-nil}
 use Prim.Native.Nat.{ℕ}
 use native.Mathlib.Omega.{arith}
@@ -8,9 +9,10 @@ use lib.Ieee.{Float}
 use lib.ListN.{length, take, drop, set, drop-of-length-le}
 use lib.Seq.{take-all, sets-eq}
 use Rattle.sampling.specs.Hash.{hashed}
+use Rattle.centralized_telescope.specs.Distinct.{distinct}
 use Rattle.centralized_telescope.specs.Params.{smallCase}
 use Rattle.centralized_telescope.specs.declared.params.SmallSettings.{SmallSettings}
-use Rattle.harness_exports.specs.Exported.{exportedHash, withSettings, exportedSmallCase}
+use Rattle.harness_exports.specs.Exported.{exportedHash, withSettings, exportedSmallCase, said, exportedDistinct}
 
 pub refused : (m out : List ℕ) → (length out ≡ 32 → ⊥) → (8, out) ≡ exportedHash m out
 unfolding exportedHash
@@ -39,3 +41,9 @@ pub answered : (u : ℕ) (c : Float) (out : List ℕ) (k : ℕ) (s : SmallSettin
     → a ≡ withSettings k s out → a ≡ exportedSmallCase u c out
 unfolding exportedSmallCase
 answered u c out k s a h e p = rw (eq-eqb (length out) 5 h, ← e) p
+
+-- ---- distinctness
+
+pub told : (d n m x : List ℕ) (k : ℕ) (r : Bool) → (k, r) ≡ distinct d n m x → said k r ≡ exportedDistinct d n m x
+unfolding exportedDistinct
+told d n m x k r e = rw (← e)

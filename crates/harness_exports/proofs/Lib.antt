@@ -1,2 +1,3 @@
 -- The laws that the proofs of `harness_exports` share.
 mod Answer
+mod ProverNumbers

@@ -5,7 +5,10 @@ ghost use mathlib.Core.List.{_++_};
 ghost use lib.Dec.{T};
 ghost use lib.Ieee.{isNan};
 ghost use lib.ListN.{length};
-ghost use Rattle.harness_exports.specs.Exported.{exportedHash, five, exportedSmallCase};
+ghost use Rattle.harness_exports.specs.Exported.{exportedHash, five, exportedSmallCase, exportedDistinct, refusalOf, withoutProof, numbersOf, withCounters, settings, exportedProve};
+use centralized_telescope::Distinctness;
+use centralized_telescope::Params;
+use centralized_telescope::ProofSearch;
 use centralized_telescope::SmallCase;
 use centralized_telescope::SmallSettings;
 
@@ -54,4 +57,119 @@ pub extern "C" fn alba_small_case(u: u64, c: f64, out: &mut [u64]) -> u32
         SmallCase::ProofSizeRefused => 30,
         SmallCase::CompletenessRefused => 31,
     }
+}
+
+// Whether no two elements of a lent list have equal data bytes: 0 for yes, 1 for no, or the list's refusal, 4 or 5.
+#[no_mangle]
+pub extern "C" fn alba_check_distinct(
+    data: &[u8],
+    ends: &[u32],
+    marks: &[u8],
+    indexes: &[u64],
+) -> u32
+    ensures { λ r. ⌜ r ≡ exportedDistinct (now («data» .entry)) (now (ends .entry)) (now (marks .entry)) (now (indexes .entry)) ⌝ }
+{
+    let answer = centralized_telescope::check_distinct(data, ends, marks, indexes);
+    match answer {
+        Distinctness::Distinct => 0,
+        Distinctness::Repeated => 1,
+        Distinctness::Malformed => 4,
+        Distinctness::TooLarge => 5,
+    }
+}
+
+// What the prover answers, in numbers.
+pub struct Numbers {
+    pub number: u32,
+    pub retry: u64,
+    pub search: u64,
+    pub count: u64,
+}
+
+fn refusal(number: u32) -> Numbers
+    ensures { λ r. ⌜ r ≡ refusalOf number ⌝ }
+{
+    Numbers {
+        number,
+        retry: 0,
+        search: 0,
+        count: 0,
+    }
+}
+
+fn without_proof(number: u32, count: u64) -> Numbers
+    ensures { λ r. ⌜ r ≡ withoutProof number count ⌝ }
+{
+    Numbers {
+        number,
+        retry: 0,
+        search: 0,
+        count,
+    }
+}
+
+fn numbers_of(answer: ProofSearch) -> Numbers
+    ensures { λ r. ⌜ r ≡ numbersOf answer ⌝ }
+{
+    match answer {
+        ProofSearch::Found(retry, search, count) => Numbers {
+            number: 0,
+            retry: retry.0,
+            search: search.0,
+            count,
+        },
+        ProofSearch::NotFoundInBounds(count) => without_proof(11, count),
+        ProofSearch::NotFound(count) => without_proof(12, count),
+        ProofSearch::SetSizeRefused => refusal(1),
+        ProofSearch::LimitRefused => refusal(2),
+        ProofSearch::ProbabilityRefused => refusal(3),
+        ProofSearch::Malformed => refusal(4),
+        ProofSearch::TooLarge => refusal(5),
+        ProofSearch::WorkspaceShort => refusal(6),
+        ProofSearch::NotEnoughElements => refusal(10),
+    }
+}
+
+// The counters and the step count into the first three lent numbers, if there are as many.
+fn put_counters(n: Numbers, out: &mut [u64])
+    ensures { λ r. ⌜ now (out .exit) ≡ withCounters n (now (out .entry)) ⌝ }
+{
+    if 3 <= out.len() {
+        out[0] = n.retry;
+        out[1] = n.search;
+        out[2] = n.count;
+    }
+}
+
+// The prover: 0 or the number. `out` takes R, S and the step count where it has three numbers or more.
+#[no_mangle]
+pub extern "C" fn alba_prove(
+    set_size: u64,
+    proof_size: u64,
+    max_retries: u64,
+    search_width: u64,
+    dfs_bound: u64,
+    q: f64,
+    data: &[u8],
+    ends: &[u32],
+    marks: &[u8],
+    indexes: &[u64],
+    places: &mut [u32],
+    bins: &mut [u32],
+    out: &mut [u64],
+) -> u32
+    ensures { λ r. ⌜ (r, now (places .exit), now (bins .exit), now (out .exit)) ≡ exportedProve (settings «set_size» «proof_size» «max_retries» «search_width» «dfs_bound» q) (now («data» .entry)) (now (ends .entry)) (now (marks .entry)) (now (indexes .entry)) (now (places .entry)) (now (bins .entry)) (now (out .entry)) ⌝ }
+{
+    let p = Params {
+        set_size,
+        proof_size,
+        max_retries,
+        search_width,
+        dfs_bound,
+        q,
+    };
+    let answer = centralized_telescope::prove(p, data, ends, marks, indexes, places, bins);
+    let n = numbers_of(answer);
+    put_counters(n, out);
+    n.number
 }

@@ -25,7 +25,7 @@ pub fn in_turns<const N: usize>(mut contenders: [Work; N]) -> [Measured; N] {
     })
 }
 
-fn median(mut values: Vec<f64>) -> f64 {
+pub fn median(mut values: Vec<f64>) -> f64 {
     values.sort_unstable_by(f64::total_cmp);
     values[values.len() / 2]
 }
@@ -42,9 +42,14 @@ fn calls_in_a_turn(work: &mut Work) -> u64 {
 }
 
 fn seconds(work: &mut Work, calls: u64) -> f64 {
+    timed(|| work(calls)).0
+}
+
+/// How long one call took, and its answer.
+pub fn timed<T>(call: impl FnOnce() -> T) -> (f64, T) {
     let start = processor_time();
-    work(calls);
-    processor_time() - start
+    let answer = call();
+    (processor_time() - start, answer)
 }
 
 #[repr(C)]

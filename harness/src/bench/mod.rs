@@ -5,9 +5,11 @@
 
 mod measure;
 mod openssl;
+mod searches;
 
 use crate::{args::AGAIN, ffi, rng::Rng};
 use measure::{in_turns, Measured, Work, ROUNDS};
+use oracle::utils::types::Element;
 use sha2::{Digest, Sha256};
 use std::{fs, hint::black_box, process};
 
@@ -26,7 +28,10 @@ pub fn run(setting: Option<usize>) -> Result<(), String> {
         again(setting)?;
     }
     samplers();
-    println!("\nThe ratio is of speeds: 1.00 is as fast, above it faster. Times are the thread's own; times and ratios are medians of {ROUNDS} rounds.");
+    distinctness();
+    searches::run()?;
+    println!("\nThe ratio is of speeds: 1.00 is as fast, above it faster. Times are the thread's own; times and ratios are medians of {ROUNDS} rounds,");
+    println!("those of searches medians over their seeds.");
     Ok(())
 }
 
@@ -34,6 +39,8 @@ pub fn run(setting: Option<usize>) -> Result<(), String> {
 fn row(work: &str, against: &str, ours: Measured, theirs: Measured, bytes: Option<usize>) {
     let show = |ns: f64| match bytes {
         Some(bytes) => format!("{:.0} MB/s", bytes as f64 / ns * 1e3),
+        None if ns >= 1e7 => format!("{:.2} ms", ns / 1e6),
+        None if ns >= 1e5 => format!("{:.0} µs", ns / 1e3),
         None => format!("{ns:.1} ns"),
     };
     println!("| {work} | {against} | {} | {} | {:.2} |", show(ours.ns), show(theirs.ns), theirs.longer);
@@ -125,6 +132,26 @@ fn over<'a, T>(hashes: &'a [[u8; 16]; 256], call: impl Fn(&[u8; 16]) -> T + 'a) 
             black_box(call(black_box(&hashes[i as usize % 256])));
         }
     })
+}
+
+/// The most elements that are admitted, all different: 32 random bytes each.
+fn distinctness() {
+    let mut rng = Rng::new(3, 0);
+    let elements: Vec<Element<[u8; 32]>> = (0..65_536u64)
+        .map(|index| {
+            let mut data = [0; 32];
+            rng.fill(&mut data);
+            Element::new(data, Some(index))
+        })
+        .collect();
+    let data: Vec<u8> = elements.iter().flat_map(|element| element.data).collect();
+    let ends: Vec<u32> = (1..=65_536).map(|i| 32 * i).collect();
+    let (marks, indexes) = (vec![1; 65_536], Vec::from_iter(0..65_536));
+    let [ours, theirs] = in_turns([
+        Box::new(|calls| (0..calls).for_each(|_| assert_eq!(ffi::check_distinct(black_box(&data), &ends, &marks, &indexes), 0))),
+        Box::new(|calls| (0..calls).for_each(|_| assert!(oracle::check_distinct(black_box(&elements))))),
+    ]);
+    row("distinctness of 65,536 elements of 32 bytes", "the Rust", ours, theirs, None);
 }
 
 /// The processor's name, and whether it has SHA instructions.

@@ -63,7 +63,7 @@ fn around(rng: &mut Rng, q: f64) -> [u128; 9] {
     [0, 1, x.saturating_sub(1), x, x.saturating_add(1), u128::MAX - 1, u128::MAX, below, above]
 }
 
-fn any_q(rng: &mut Rng) -> f64 {
+pub fn any_q(rng: &mut Rng) -> f64 {
     let one = 1f64.to_bits();
     match rng.below(4) {
         // Any lawful double, each as likely as another: mostly tiny ones.

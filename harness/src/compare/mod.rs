@@ -1,13 +1,24 @@
 //! The library against the original Rust (and `sha2`), on the same inputs.
 
 mod bernoulli;
+mod blocks;
+mod distinct;
+mod faults;
+mod fence;
 mod guard;
 mod hash;
+mod limits;
+mod prover_refusals;
 mod refusals;
+mod rules;
+mod searches;
 mod small_case;
 mod uniform;
+mod verdicts;
+mod verifier_refusals;
 
-use crate::{args::Compare, rng::Rng};
+use crate::{args::Compare, list::List, rng::Rng};
+use blocks::Tally;
 use std::fmt::Write;
 use std::time::{Duration, Instant};
 
@@ -19,20 +30,29 @@ type Kind = fn(&mut Run, u64) -> Checked;
 
 pub fn run(options: &Compare) -> Checked {
     println!("seed 0x{:016x}, {} random cases", options.seed, options.cases);
-    let kinds: [(&str, Kind, u64); 6] = [
+    let kinds: [(&str, Kind, u64); 12] = [
         ("uniform", uniform::run, options.cases),
         ("Bernoulli", bernoulli::run, options.cases),
         ("hash", hash::run, options.cases / 20),
         ("hash at its limit", hash::at_limit, 0),
         ("small case", small_case::run, options.cases / 20),
+        ("distinctness", distinct::run, options.cases / 100),
         ("refusals", refusals::run, 0),
+        ("small searches", searches::small, options.cases / 10),
+        ("realistic searches", searches::realistic, 0),
+        ("searches at the limits", limits::run, 0),
+        ("refusals of prove", prover_refusals::run, options.cases / 100),
+        ("refusals of verify", verifier_refusals::run, options.cases / 100),
     ];
-    let mut counts = Vec::new();
+    let (mut counts, mut parts) = (Vec::new(), String::new());
     for (stream, (name, kind, cases)) in (0..).zip(kinds) {
-        let mut run = Run { rng: Rng::new(options.seed, stream), name, done: 0, shown: Instant::now() };
+        let seeds = (options.seed, stream);
+        let mut run = Run { rng: Rng::new(seeds.0, seeds.1), seeds, name, done: 0, tally: Tally::default(), shown: Instant::now() };
         kind(&mut run, cases).map_err(|case| format!("{name}: DIFFERS (seed 0x{:016x}, case {})\n{case}", options.seed, run.done))?;
-        counts.push(format!("{name} {}", run.done));
+        counts.push(format!("{name} {}{}", run.done, run.tally.totals()));
+        parts += &run.tally.lines(name);
     }
+    print!("{parts}");
     println!("equal in all cases: {}", counts.join(", "));
     Ok(())
 }
@@ -40,8 +60,12 @@ pub fn run(options: &Compare) -> Checked {
 /// One kind under way.
 struct Run {
     rng: Rng,
+    /// The run's seed and the kind's stream, for random numbers that a part of the kind has of its own.
+    seeds: (u64, u64),
     name: &'static str,
     done: u64,
+    /// How often each answer came, where that tells something.
+    tally: Tally,
     shown: Instant,
 }
 
@@ -49,7 +73,19 @@ impl Run {
     /// Counts a case that was equal; in a long run says now and then how far it is.
     fn count(&mut self) {
         self.done += 1;
-        if self.done % 0x1_0000 == 0 && self.shown.elapsed() > Duration::from_secs(10) {
+        if self.done % 0x1_0000 == 0 {
+            self.say_how_far();
+        }
+    }
+
+    /// The same for many cases at once.
+    fn count_more(&mut self, cases: u64) {
+        self.done += cases;
+        self.say_how_far();
+    }
+
+    fn say_how_far(&mut self) {
+        if self.shown.elapsed() > Duration::from_secs(10) {
             eprintln!("{}: {} equal so far", self.name, self.done);
             self.shown = Instant::now();
         }
@@ -74,6 +110,14 @@ impl Shifted {
     fn bytes(&self) -> &[u8] {
         &self.room[self.start..self.start + self.len]
     }
+}
+
+/// A list for the print of a failing case; a long one is told by the seed.
+fn shown_list(list: &List) -> String {
+    if list.len() > 5000 || list.data.len() > 1 << 20 {
+        return format!("  a list of {} ends and {} data bytes, which the seed gives\n", list.len(), list.data.len());
+    }
+    format!("  data {}\n  ends {:?}\n  marks {:?}\n  indexes {:?}\n", hex(&list.data), list.ends, list.marks, list.indexes)
 }
 
 fn hex(bytes: &[u8]) -> String {

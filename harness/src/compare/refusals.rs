@@ -83,7 +83,7 @@ fn bernoulli_of(rng: &mut Rng, h_len: Option<usize>, q: f64) -> Checked {
 }
 
 /// Not numbers of several kinds, infinities, numbers below 0 and above 1, the nearest ones first.
-fn unlawful() -> Vec<f64> {
+pub fn unlawful() -> Vec<f64> {
     let mut bits = vec![
         1f64.to_bits() + 1,
         1f64.to_bits() + 2,

@@ -1,0 +1,198 @@
+/* The verifier's export, called through telescope.h: accepted proofs, every refusal, and the order in which they are met. */
+#include "telescope.h"
+
+#include <inttypes.h>
+#include <math.h>
+#include <stdio.h>
+#include <stdlib.h>
+
+/* More elements than the 65536 that a list may have. */
+enum { MANY = 70000 };
+
+static unsigned made, failed;
+
+struct settings {
+    uint64_t set_size, proof_size, max_retries, search_width, dfs_bound;
+    double q;
+};
+
+/* With set_size 1 every draw is 0, so each chain exists; with q = 1 it passes unless 16 bytes of a digest are all FF. */
+static const struct settings any_chain = {1, 2, 3, 4, 5, 1.0};
+
+/* A list: each element has `size` data bytes and an index; `list` makes it, and a test then spoils what it is about. */
+struct list {
+    size_t data_len, ends_len, marks_len, indexes_len;
+    uint8_t *data, *ends, *marks, *indexes;
+};
+
+static void put(uint8_t *bytes, unsigned count, uint64_t value) {
+    while (count-- > 0) {
+        bytes[count] = (uint8_t)value;
+        value >>= 8;
+    }
+}
+
+static uint8_t *room(size_t size) {
+    uint8_t *bytes = calloc(size + 1, 1);
+    if (bytes == NULL) {
+        printf("no memory\n");
+        exit(2);
+    }
+    return bytes;
+}
+
+static struct list list(size_t count, size_t size) {
+    struct list l = {count * size, 4 * count, count, 8 * count, room(count * size), room(4 * count), room(count), room(8 * count)};
+    for (size_t i = 0; i < l.data_len; i++)
+        l.data[i] = (uint8_t)(i * 37 + 11);
+    for (size_t i = 0; i < count; i++) {
+        put(l.ends + 4 * i, 4, (i + 1) * size);
+        l.marks[i] = 1;
+        put(l.indexes + 8 * i, 8, i * 0x0102030405060708);
+    }
+    return l;
+}
+
+static void drop(struct list l) {
+    free(l.data);
+    free(l.ends);
+    free(l.marks);
+    free(l.indexes);
+}
+
+static void verify(const char *what, struct settings s, uint64_t retry, uint64_t search, struct list l, uint32_t answer) {
+    uint32_t got = alba_verify(s.set_size, s.proof_size, s.max_retries, s.search_width, s.dfs_bound, s.q, retry, search, l.data, l.data_len,
+                               l.ends, l.ends_len, l.marks, l.marks_len, l.indexes, l.indexes_len);
+    made++;
+    if (got != answer) {
+        failed++;
+        printf("FAILED: %s: %" PRIu32 ", due %" PRIu32 "\n", what, got, answer);
+    }
+}
+
+static void accepted(void) {
+    struct list two = list(2, 5), none = {0, 0, 0, 0, NULL, NULL, NULL, NULL}, most = list(1024, 3);
+    struct settings s = any_chain;
+    for (uint64_t retry = 0; retry < s.max_retries; retry++)
+        for (uint64_t search = 0; search < s.search_width; search++)
+            verify("any chain is accepted", s, retry, search, two, ALBA_ACCEPTED);
+    two.marks[0] = 0;
+    verify("no index at one element", s, 1, 0, two, ALBA_ACCEPTED);
+    two.data_len--;
+    put(two.ends + 4, 4, 9);
+    verify("the last element a byte shorter", s, 1, 0, two, ALBA_ACCEPTED);
+    put(two.ends, 4, 0);
+    verify("an empty element", s, 1, 0, two, ALBA_ACCEPTED);
+    s.proof_size = 0;
+    verify("no element, all null", s, 0, 0, none, ALBA_ACCEPTED);
+    s.proof_size = 1024;
+    verify("the longest proof", s, 2, 3, most, ALBA_ACCEPTED);
+    drop(two);
+    drop(most);
+}
+
+static void settings(void) {
+    struct list l = list(2, 5);
+    struct settings s = any_chain;
+    l.ends_len = 7; /* each refusal here comes before 4 */
+    s.q = NAN;
+    verify("q is NaN", s, 1, 0, l, ALBA_BAD_PROBABILITY);
+    s.q = -0.5;
+    verify("q below 0", s, 1, 0, l, ALBA_BAD_PROBABILITY);
+    s.q = 1.5;
+    verify("q above 1", s, 1, 0, l, ALBA_BAD_PROBABILITY);
+    struct settings proof = s, retries = s, width = s, bound = s;
+    proof.proof_size = 1025;
+    retries.max_retries = 65536;
+    width.search_width = UINT64_C(1) << 32;
+    bound.dfs_bound = (UINT64_C(1) << 48) + 1;
+    verify("proof_size 1025", proof, 1, 0, l, ALBA_BAD_LIMIT);
+    verify("max_retries 65536", retries, 1, 0, l, ALBA_BAD_LIMIT);
+    verify("search_width 2^32", width, 1, 0, l, ALBA_BAD_LIMIT);
+    verify("dfs_bound 2^48 + 1", bound, 1, 0, l, ALBA_BAD_LIMIT);
+    proof.set_size = 0;
+    verify("set_size 0", proof, 1, 0, l, ALBA_BAD_SET_SIZE);
+    proof.set_size = 32769;
+    verify("set_size 32769", proof, 1, 0, l, ALBA_BAD_SET_SIZE);
+    drop(l);
+}
+
+/* Each of these lists has another length than proof_size too, which is met later. */
+static void malformed(void) {
+    struct settings s = any_chain;
+    struct list l = list(3, 5), bad = l;
+    for (bad.ends_len = 0; bad.ends_len < 12; bad.ends_len++)
+        verify("ends of another count, or of none that is whole", s, 1, 0, bad, ALBA_MALFORMED);
+    bad = l;
+    for (bad.indexes_len = 0; bad.indexes_len < 24; bad.indexes_len++)
+        verify("indexes of another count, or of none that is whole", s, 1, 0, bad, ALBA_MALFORMED);
+    bad = l;
+    bad.marks_len = 2;
+    verify("marks of another count", s, 1, 0, bad, ALBA_MALFORMED);
+    bad = l;
+    bad.data_len = 14;
+    verify("an end past the data", s, 1, 0, bad, ALBA_MALFORMED);
+    l.marks[2] = 2;
+    verify("a mark over 1", s, 1, 0, l, ALBA_MALFORMED);
+    l.marks[2] = 1;
+    put(l.ends + 4, 4, 4);
+    verify("an end that falls", s, 1, 0, l, ALBA_MALFORMED);
+    put(l.ends + 4, 4, UINT32_MAX);
+    verify("an end far past the data", s, 1, 0, l, ALBA_MALFORMED);
+    drop(l);
+}
+
+static void too_large(void) {
+    struct settings s = any_chain;
+    struct list many = list(MANY, 1), limit = list(65536, 1), large = list(2, 4097), at_limit = list(2, 4096);
+    verify("70000 elements", s, 1, 0, many, ALBA_TOO_LARGE);
+    many.marks[MANY - 1] = 2;
+    verify("70000 elements, a mark over 1 at the last", s, 1, 0, many, ALBA_MALFORMED);
+    many.marks[MANY - 1] = 0;
+    put(many.ends + 4 * (MANY - 1), 4, 0);
+    verify("70000 elements, the last end falls", s, 1, 0, many, ALBA_MALFORMED);
+    verify("65536 elements", s, 1, 0, limit, ALBA_INCORRECT_NUMBER_ELEMENTS);
+    put(limit.ends + 4 * 65535, 4, 65535 + 4097);
+    limit.data_len += 4096;
+    limit.data = realloc(limit.data, limit.data_len);
+    verify("65536 elements, the last of 4097 bytes", s, 1, 0, limit, ALBA_TOO_LARGE);
+    verify("4097 data bytes", s, 1, 0, large, ALBA_TOO_LARGE);
+    verify("4096 data bytes", s, 1, 0, at_limit, ALBA_ACCEPTED);
+    large.marks[1] = 2;
+    verify("4097 data bytes, and a mark over 1 behind them", s, 1, 0, large, ALBA_MALFORMED);
+    drop(many);
+    drop(limit);
+    drop(large);
+    drop(at_limit);
+}
+
+static void judged(void) {
+    struct list l = list(2, 5), more = list(1025, 1);
+    struct settings s = any_chain;
+    s.proof_size = 3;
+    verify("two elements for three", s, 9, 9, l, ALBA_INCORRECT_NUMBER_ELEMENTS);
+    s.proof_size = 1024;
+    verify("1025 elements for 1024", s, 1, 0, more, ALBA_INCORRECT_NUMBER_ELEMENTS);
+    s = any_chain;
+    s.q = 0.0; /* no chain passes */
+    verify("R = max_retries", s, 3, 0, l, ALBA_INVALID_PARAMETERS);
+    verify("S = search_width", s, 0, 4, l, ALBA_INVALID_PARAMETERS);
+    verify("R = 2^64 - 1", s, UINT64_MAX, 0, l, ALBA_INVALID_PARAMETERS);
+    verify("S = 2^64 - 1", s, 0, UINT64_MAX, l, ALBA_INVALID_PARAMETERS);
+    verify("a chain that doesn't pass", s, 2, 3, l, ALBA_INVALID_PROOF);
+    s = any_chain;
+    s.set_size = 32768; /* a chain of two exists once in 2^30 or so */
+    verify("a chain that doesn't exist", s, 2, 3, l, ALBA_INVALID_PROOF);
+    drop(l);
+    drop(more);
+}
+
+int main(void) {
+    accepted();
+    settings();
+    malformed();
+    too_large();
+    judged();
+    printf("verify: %u checks, %u failed\n", made, failed);
+    return failed == 0 ? 0 : 1;
+}

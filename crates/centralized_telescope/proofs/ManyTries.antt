@@ -1,0 +1,140 @@
+-- A turn of the loop over the tries, in the terms that the code's calls give.
+use mathlib.Core.Path.{_≡_, ap, sym, _∙_}
+use mathlib.Core.List.{List}
+use mathlib.Core.Option.{none, some}
+use Prim.Native.Nat.{ℕ, zero, suc, _+_, _*_, _≤_, _<_}
+use native.Mathlib.Numerals.{add-one}
+use native.Mathlib.Omega.{arith}
+use borrow.Author.Tests.{le-leb, lt-leb}
+use lib.ListN.{length, take, drop, length-take}
+use lib.Seq.{drop-at}
+use Rattle.centralized_telescope.specs.declared.params.Params.{Params}
+use Rattle.centralized_telescope.specs.declared.proof.Attempt.{Attempt}
+use Rattle.centralized_telescope.specs.declared.proof.Attempt.the-variants as attempt
+use Rattle.centralized_telescope.specs.declared.proof.ProofSearch.the-variants as answer
+use Rattle.centralized_telescope.specs.declared.round.SearchCounter.{SearchCounter}
+use Rattle.centralized_telescope.specs.Params.{checked}
+use Rattle.centralized_telescope.specs.Elements.{Element, listCheck}
+use Rattle.centralized_telescope.specs.Bins.{tableOf, binTable}
+use Rattle.centralized_telescope.specs.BinsLaws.{length-table}
+use Rattle.centralized_telescope.specs.Chains.{Try, tryOf, Chain}
+use Rattle.centralized_telescope.specs.Search.{binsOf, tryCount, tryFinds, Searched, unlessFound, triesFrom, searched}
+use Rattle.centralized_telescope.specs.TryLaws.{length-binList}
+use Rattle.centralized_telescope.specs.Walk.{Ended, found, missing, counted, find}
+use Rattle.centralized_telescope.specs.WalkLaws.{walk-bound, try-counts, try-finds}
+use Rattle.centralized_telescope.specs.Prover.{tableAfter, answered, served, provedBy}
+use Rattle.centralized_telescope.specs.Visit.{tryOn, tried, attemptOf, written, Ready}
+
+-- ---- from an answer back to the try's end
+
+missing-try : (r : Ended Chain) (t : ℕ) → attempt.Missing t ≡ attemptOf r → r ≡ missing t
+missing-try (found u c) t e = let z : _≡_ {A = ℕ} 0 1 = cc in absurd (omega arith)
+missing-try (missing u) t e = cc
+
+found-try : (r : Ended Chain) (S : SearchCounter) (t : ℕ) → attempt.Found S t ≡ attemptOf r → (c : Chain) × (r ≡ found t c) × (S .0 ≡ c .search)
+found-try (found u c) S t e = let z : S ≡ record { 0 = c .search } = cc in (c, cc, ap (λ (k : SearchCounter). k .0) z)
+found-try (missing u) S t e = let z : _≡_ {A = ℕ} 0 1 = cc in absurd (omega arith)
+
+module _ (T : Try) where
+  abbrev it : Ended Chain
+  it = tried T (T .settings .«search_width») 0 0
+
+  count-is : counted it ≡ tryCount T
+  unfolding tried
+  count-is = try-counts T
+
+  finds-is : find it ≡ tryFinds T
+  unfolding tried
+  finds-is = try-finds T
+
+  try-within : counted it ≤ T .settings .«dfs_bound»
+  unfolding tried
+  try-within = walk-bound _ (T .settings .«dfs_bound») 0 _ (omega arith)
+
+-- ---- the tries
+
+module _ (p : Params) (es : List Element) where
+  abbrev next : ℕ → Try
+  next R = tryOf p es (R + 1)
+
+  -- the table of the next try takes the place of the one before
+  pub next-table : (R : ℕ) (now mid old : List ℕ) → mid ≡ tableAfter p es R old → now ≡ binTable (p .«set_size») (binsOf (next R)) mid
+      → now ≡ tableAfter p es (R + 1) old
+  unfolding tableAfter binTable
+  next-table zero now mid old e q = q ∙ rw (e, add-one zero)
+  next-table (suc R) now mid old e q =
+      let few : length (binsOf (tryOf p es (suc R))) ≤ 2 * p .«set_size» =
+      omega (arith, length-binList (p .«set_size») (suc R) (take (2 * p .«set_size») es), length-take (2 * p .«set_size») es) in
+      q ∙ rw (
+        e,
+        drop-at (tableOf (p .«set_size») (binsOf (tryOf p es (suc R)))) (drop (3 * p .«set_size» + 1) old) (3 * p .«set_size» + 1) (length-table (p .«set_size») (binsOf (tryOf p es (suc R))) few),
+        add-one (suc R),
+      )
+
+  -- what is served, where the search ends so
+  ends-served : (s : Searched) → searched p es ≡ s → (places table : List ℕ)
+      → answered p (s .proof) (s .made) (s .count) places (tableAfter p es (s .made) table) ≡ served p es places table
+  unfolding served
+  ends-served s e places table = rw e
+
+  module _ (w v R sum : ℕ) (ew : w ≡ suc v) (inv : searched p es ≡ triesFrom p es w R sum) (o : Attempt) (last mid old : List ℕ) (em : mid ≡ old)
+      (said : (o ≡ attemptOf (it (next R))) × (last ≡ written (it (next R)) mid)) where
+    opened : searched p es ≡ unlessFound (tryFinds (next R)) (R + 1) (sum + tryCount (next R)) (triesFrom p es v (R + 1) (sum + tryCount (next R)))
+    unfolding triesFrom
+    opened = inv ∙ rw ew
+
+    pub all-missing : (t : ℕ) → o ≡ attempt.Missing t → (searched p es ≡ triesFrom p es v (R + 1) (sum + t)) × (last ≡ old) × (t ≤ p .«dfs_bound»)
+    unfolding unlessFound written
+    all-missing t e =
+        let m : it (next R) ≡ missing t = missing-try (it (next R)) t (sym e ∙ said .0) in
+        let none-found : tryFinds (next R) ≡ none = sym (finds-is (next R)) ∙ ap find m in
+        let counts : tryCount (next R) ≡ t = sym (count-is (next R)) ∙ ap counted m in (
+          opened ∙ rw (none-found, counts),
+          said .1 ∙ ap (λ (r : Ended Chain). written r mid) m ∙ em,
+          rw m at (try-within (next R)),
+        )
+
+    pub found-within : (S : SearchCounter) (t : ℕ) → o ≡ attempt.Found S t → t ≤ p .«dfs_bound»
+    found-within S t e =
+        let f = found-try (it (next R)) S t (sym e ∙ said .0) in
+        rw (f .1) at (try-within (next R))
+
+    pub all-found : (S : SearchCounter) (t : ℕ) → o ≡ attempt.Found S t → (now lent : List ℕ) → now ≡ tableAfter p es (R + 1) lent
+        → provedBy (answer.Found (record { 0 = R + 1 }) S (sum + t)) last now ≡ served p es old lent
+    unfolding unlessFound written answered
+    all-found S t e now lent et =
+        let f = found-try (it (next R)) S t (sym e ∙ said .0) in
+        let finds : tryFinds (next R) ≡ some (f .0) = sym (finds-is (next R)) ∙ ap find (f .1) in
+        let counts : tryCount (next R) ≡ t = sym (count-is (next R)) ∙ ap counted (f .1) in
+        let ends : searched p es ≡ record { made = R + 1; count = sum + t; proof = some (f .0) } = opened ∙ rw (finds, counts) in
+        let places = said .1 ∙ ap (λ (r : Ended Chain). written r mid) (f .1) in
+        rw (et, f .2, places, em) (ends-served _ ends old lent)
+
+  module _ (w R sum : ℕ) (ew : w ≡ 0) (inv : searched p es ≡ triesFrom p es w R sum) (now lent last old : List ℕ) (et : now ≡ tableAfter p es R lent)
+      (ep : last ≡ old) where
+    over : searched p es ≡ record { made = R; count = sum; proof = none }
+    unfolding triesFrom
+    over = inv ∙ rw ew
+
+    pub not-in-bounds : p .«dfs_bound» ≤ sum → provedBy (answer.NotFoundInBounds sum) last now ≡ served p es old lent
+    unfolding answered
+    not-in-bounds l = rw (et, ep) (rw (le-leb (p .«dfs_bound») sum l) at (ends-served _ over old lent))
+
+    pub not-found : sum < p .«dfs_bound» → provedBy (answer.NotFound sum) last now ≡ served p es old lent
+    unfolding answered
+    not-found l = rw (et, ep) (rw (lt-leb (p .«dfs_bound») sum l) at (ends-served _ over old lent))
+
+-- a table that was just filled is ready to be searched
+pub filled-ready : (p : Params) (X : ℕ) (bytes ends marks indexes : List ℕ) (R : ℕ) (table lent : List ℕ) (room : ℕ) → checked p ≡ (0, X)
+    → listCheck bytes ends marks indexes ≡ 0
+    → table ≡ binTable (p .«set_size») (binsOf (tryOn p bytes ends marks indexes R)) lent
+    → p .«proof_size» ≤ room
+    → Ready p X bytes ends marks indexes R table room
+unfolding binTable
+filled-ready p X bytes ends marks indexes R table lent room s l t h = record {
+  settings = s;
+  list = l;
+  rest = drop (3 * p .«set_size» + 1) lent;
+  table-is = t;
+  roomy = h;
+}

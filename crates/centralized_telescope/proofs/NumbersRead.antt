@@ -1,0 +1,51 @@
+-- Numbers in bytes, read one after the other: how many there are, each of them, and how far they go.
+use mathlib.Core.Path.{_≡_, refl, ap, sym, _∙_}
+use mathlib.Core.List.{List}
+use Prim.Native.Nat.{ℕ, zero, suc, _+_, _*_, _^_, _≤_, _<_}
+use native.Mathlib.Nat.{pow-suc, pow-le-pow-right, mul-zero, mul-suc, add-comm}
+use native.Mathlib.Numerals.{add-one}
+use native.Mathlib.Omega.{arith}
+use lib.ListN.{length, take, drop, getD, set}
+use lib.Seq.{getD-drop, drop-drop, take-all, take-suc, take-suc-set}
+use Rattle.sampling.specs.BigEndian.{bigEndian}
+use Rattle.centralized_telescope.specs.Exports.{numbersIn}
+
+-- ---- one number: v is what its first i bytes make, b the byte behind them
+
+module _ (v i : ℕ) (below : v < 256 ^ i) where
+  -- of at most 8 bytes, so that it stays within 64 bits
+  pub room-for-byte : i < 8 → v * 256 + 255 < 18446744073709551616
+  room-for-byte l = omega (arith, pow-suc 256 i, pow-le-pow-right {n = 256} (omega arith) {i = suc i} {j = 8} (omega arith))
+
+  pub byte-added : (b : ℕ) → b < 256 → v * 256 + b < 256 ^ (i + 1)
+  byte-added b l = rw (add-one i, pow-suc 256 i) (omega arith)
+
+pub none-read : (bytes : List ℕ) (at : ℕ) → 0 ≡ bigEndian 0 (drop at bytes)
+unfolding bigEndian
+none-read bytes at = refl
+
+pub byte-read : (bytes : List ℕ) (at i v : ℕ) → v ≡ bigEndian i (drop at bytes) → v * 256 + getD bytes (at + i) 0 ≡ bigEndian (i + 1) (drop at bytes)
+unfolding bigEndian
+byte-read bytes at i v e = rw (add-one i, e, getD-drop at bytes i 0)
+
+-- ---- all of them
+
+pub length-numbersIn : (n k : ℕ) (bytes : List ℕ) → length (numbersIn n k bytes) ≡ n
+unfolding numbersIn
+length-numbersIn zero k bytes = refl
+length-numbersIn (suc n) k bytes = ap suc (length-numbersIn n k (drop k bytes))
+
+pub number-at : (n k : ℕ) (bytes : List ℕ) (i : ℕ) → i < n → getD (numbersIn n k bytes) i 0 ≡ bigEndian k (drop (k * i) bytes)
+unfolding numbersIn
+number-at zero k bytes i h = absurd (omega arith)
+number-at (suc n) k bytes zero h = ap (λ (j : ℕ). bigEndian k (drop j bytes)) (sym (mul-zero k))
+number-at (suc n) k bytes (suc i) h = number-at n k (drop k bytes) i (omega arith) ∙ ap (bigEndian k) (drop-drop (k * i) k bytes ∙ ap (λ (j : ℕ). drop j bytes) (add-comm k (k * i) ∙ sym (mul-suc k i)))
+
+-- one more is written
+pub one-read : (ns out : List ℕ) (i v : ℕ) → i < length ns → length out ≡ length ns → v ≡ getD ns i 0 → take i out ≡ take i ns
+    → take (i + 1) (set out i v) ≡ take (i + 1) ns
+one-read ns out i v h l e t = rw (add-one i, take-suc-set out i v (omega arith), take-suc ns i 0 h, e, t)
+
+-- all are written
+pub all-read : (ns out : List ℕ) (i : ℕ) → length out ≤ i → length out ≡ length ns → take i out ≡ take i ns → out ≡ ns
+all-read ns out i h l t = sym (take-all i out h) ∙ t ∙ take-all i ns (omega arith)

@@ -1,0 +1,208 @@
+-- Writing a proof out: the places and their data looked at from the front, and one element more written behind those that are.
+use mathlib.Core.Path.{_≡_, refl, sym, ap, _∙_}
+use mathlib.Core.Bool.{true, false}
+use mathlib.Core.List.{List, [], _∷_, _++_, map, append-assoc, append-nil, map-append}
+use Prim.Native.Nat.{ℕ, zero, suc, _+_, _-_, _≤_, _<_}
+use native.Mathlib.Numerals.{add-one}
+use native.Mathlib.Omega.{arith}
+use borrow.Author.Tests.{le-leb, lt-leb, eq-eqb, ne-eqb, ltb-false}
+use lib.Dec.{ltb}
+use lib.ListN.{length, getD, take, drop, set, length-append, length-drop, drop-of-length-le}
+use lib.Seq.{drop-cons, take-suc, length-take-le, take-at, drop-append-add, drop-drop, set-at, take-all}
+use Rattle.centralized_telescope.specs.Elements.{Element, elementAt, elements, dataAt, indexAt, indexOf, markOf, numberOf, listCheck}
+use Rattle.centralized_telescope.specs.ElementsLaws.{data-there, data-short, index-there}
+use Rattle.centralized_telescope.specs.WrittenOut.{placeOut, dataOf, joined, endsFrom, marksOf, indexesOf, chosen, over, WrittenOut, wrote, written, buffersShort}
+use Rattle.centralized_telescope.specs.ListsLaws.{length-map}
+use Rattle.centralized_telescope.specs.ParamsLaws.{neither}
+use Rattle.centralized_telescope.specs.WrittenOutLaws.{length-ends, place-within}
+
+-- ---- an index as it is lent
+
+pub mark-none : (mark v : ℕ) → (mark ≡ 1 → ⊥) → (0 ≡ markOf (indexOf mark v)) × (0 ≡ numberOf (indexOf mark v))
+mark-none mark v k = rw (ne-eqb mark 1 k) (refl, refl)
+
+pub mark-one : (mark v : ℕ) → mark ≡ 1 → (1 ≡ markOf (indexOf mark v)) × (v ≡ numberOf (indexOf mark v))
+mark-one mark v k = rw (eq-eqb mark 1 k) (refl, refl)
+
+-- ---- places past the list: what one place settles, and what it leaves to those behind it
+
+module _ (ps : List ℕ) (i len : ℕ) where
+  pub place-here : i < length ps → len ≤ getD ps i 0 → placeOut len (drop i ps) ≡ true
+  unfolding placeOut
+  place-here h t = rw (drop-cons ps i 0 h, le-leb len (getD ps i 0) t)
+
+  pub place-behind : i < length ps → getD ps i 0 < len → placeOut len (drop i ps) ≡ placeOut len (drop (i + 1) ps)
+  unfolding placeOut
+  place-behind h t = rw (add-one, drop-cons ps i 0 h, lt-leb len (getD ps i 0) t)
+
+  pub places-done : length ps ≤ i → placeOut len (drop i ps) ≡ false
+  unfolding placeOut
+  places-done h = rw (drop-of-length-le ps {i = i} h)
+
+-- ---- the data of the elements at the places behind
+
+module _ (d n ps : List ℕ) (i : ℕ) where
+  pub data-more : i < length ps → length (dataOf d n (drop i ps)) ≡ length (dataAt d n (getD ps i 0)) + length (dataOf d n (drop (i + 1) ps))
+  unfolding dataOf
+  data-more h = rw (add-one, drop-cons ps i 0 h) (length-append (dataAt d n (getD ps i 0)) (dataOf d n (drop (suc i) ps)))
+
+  pub data-end : length ps ≤ i → length (dataOf d n (drop i ps)) ≡ 0
+  unfolding dataOf
+  data-end h = rw (drop-of-length-le ps {i = i} h)
+
+-- ---- a copy into the middle of a buffer
+
+pub copied : (used : ℕ) (own out r : List ℕ)
+    → r ≡ take (length own) own ++ drop (length own) (take (length out - used) (drop used out))
+    → take used out ++ (r ++ drop (length out - used) (drop used out)) ≡ take used out ++ (own ++ drop (used + length own) out)
+copied used own out r e =
+    let l : length (drop used out) ≤ length out - used = omega (arith, length-drop used out) in
+    rw (
+      e,
+      take-all (length out - used) (drop used out) l,
+      take-all (length own) own (omega arith),
+      drop-of-length-le (drop used out) {i = length out - used} l,
+      append-nil,
+      drop-drop (length own) used out,
+    )
+
+-- ---- buffers with room
+
+pub record Rooms (count size bytes ends marks indexes : ℕ) : Type 0 where
+  pub ends-room : count ≤ ends
+  pub marks-room : count ≤ marks
+  pub indexes-room : count ≤ indexes
+  pub data-room : size ≤ bytes
+
+pub rooms : (count size bytes ends marks indexes : ℕ) → buffersShort count size bytes ends marks indexes ≡ false → Rooms count size bytes ends marks indexes
+unfolding buffersShort
+rooms count size bytes ends marks indexes h =
+    let n = neither (ltb ends count) _ h in
+    let m = neither (ltb marks count) _ (n .1) in
+    let x = neither (ltb indexes count) _ (m .1) in
+    record {
+      ends-room = ltb-false ends count (n .0);
+      marks-room = ltb-false marks count (m .0);
+      indexes-room = ltb-false indexes count (x .0);
+      data-room = ltb-false bytes size (x .1);
+    }
+
+-- the data of one place more is within that of all
+pub data-within : (f : ℕ → Element) (ps : List ℕ) (i : ℕ) → i < length ps
+    → length (joined (map f (take i ps))) + length (f (getD ps i 0) .bytes) ≤ length (joined (map f ps))
+unfolding joined
+data-within f [] i h = absurd (omega arith)
+data-within f (p ∷ ps) zero h = omega (arith, length-append (f p .bytes) (joined (map f ps)))
+data-within f (p ∷ ps) (suc i) h =
+    omega (arith, data-within f ps i (omega arith), length-append (f p .bytes) (joined (map f ps)), length-append (f p .bytes) (joined (map f (take i ps))))
+
+-- ---- one element more
+
+chosen-more : (f : ℕ → Element) (ps : List ℕ) (i : ℕ) → i < length ps → map f (take (i + 1) ps) ≡ map f (take i ps) ++ (f (getD ps i 0) ∷ [])
+chosen-more f ps i h = rw (add-one, take-suc ps i 0 h) (map-append f (take i ps) (getD ps i 0 ∷ []))
+
+joined-more : (es : List Element) (e : Element) → joined (es ++ (e ∷ [])) ≡ joined es ++ e .bytes
+unfolding joined
+joined-more [] e = append-nil (e .bytes)
+joined-more (k ∷ es) e = rw (joined-more es e, append-assoc)
+
+ends-more : (from : ℕ) (es : List Element) (e : Element)
+    → endsFrom from (es ++ (e ∷ [])) ≡ endsFrom from es ++ ((from + length (joined es) + length (e .bytes)) ∷ [])
+unfolding endsFrom joined
+ends-more from [] e = ap (λ (k : ℕ). k ∷ []) (omega arith)
+ends-more from (k ∷ es) e =
+    let l : from + length (k .bytes) + length (joined es) + length (e .bytes) ≡ from + length (k .bytes ++ joined es) + length (e .bytes)
+    = omega (arith, length-append (k .bytes) (joined es)) in
+    ap (λ (t : List ℕ). (from + length (k .bytes)) ∷ t)
+    (ends-more (from + length (k .bytes)) es e ∙ ap (λ (v : ℕ). endsFrom (from + length (k .bytes)) es ++ (v ∷ [])) l)
+
+over-append : (xs ys s : List ℕ) → take (length xs) (over xs s) ++ (ys ++ drop (length xs + length ys) (over xs s)) ≡ over (xs ++ ys) s
+unfolding over
+over-append xs ys s =
+    rw (
+      take-at xs (drop (length xs) s) (length xs) refl,
+      drop-append-add xs (drop (length xs) s) (length ys),
+      drop-drop (length ys) (length xs) s,
+      length-append xs ys,
+      append-assoc xs ys,
+    )
+
+over-set : (k v : ℕ) (xs s : List ℕ) → length xs ≡ k → k < length s → set (over xs s) k v ≡ over (xs ++ (v ∷ [])) s
+unfolding over
+over-set k v xs s e h =
+    let l : length xs < length s = omega arith in
+    rw (drop-cons s (length xs) 0 l, set-at xs (getD s (length xs) 0) (drop (suc (length xs)) s) v k e, length-append xs (v ∷ []), add-one, append-assoc)
+
+-- in a buffer that holds xs, the number behind them
+set-more : (k v u : ℕ) (n′ n xs ys : List ℕ) → n′ ≡ over xs n → length xs ≡ k → k < length n → v ≡ u → ys ≡ xs ++ (u ∷ []) → set n′ k v ≡ over ys n
+set-more k v u n′ n xs ys B K N U Y = rw (B, U, Y) (over-set k u xs n K N)
+
+same : {k k′ : ℕ} {b b′ n n′ m m′ x x′ : List ℕ} → k ≡ k′ → b ≡ b′ → n ≡ n′ → m ≡ m′ → x ≡ x′ → wrote k b n m x ≡ wrote k′ b′ n′ m′ x′
+same K B N M X = rw (K, B, N, M, X)
+
+module _ (es : List Element) (e : Element) (b n m x : List ℕ) where
+  -- with those before it written, and its own data, mark and index in hand
+  written-more : (k used : ℕ) (b′ n′ m′ x′ own t : List ℕ) (mark number : ℕ) → wrote used b′ n′ m′ x′ ≡ written es b n m x
+      → length es ≡ k → k < length n → k < length m → k < length x
+      → own ≡ e .bytes → mark ≡ markOf (e .index) → number ≡ numberOf (e .index)
+      → t ≡ take used b′ ++ (own ++ drop (used + length own) b′)
+      → wrote (used + length own) t (set n′ k (used + length own)) (set m′ k mark) (set x′ k number) ≡ written (es ++ (e ∷ [])) b n m x
+  unfolding written
+  written-more k used b′ n′ m′ x′ own t mark number W K N M X O A I C =
+      let U : used ≡ length (joined es) = ap (λ (w : WrittenOut). w .len) W in
+      let l : used + length own ≡ length (joined es) + length (e .bytes) = omega (arith, U, ap length O) in
+      same
+      (rw (joined-more es e, length-append (joined es) (e .bytes)) l)
+      (C ∙ rw (U, ap (λ (w : WrittenOut). w .bytes) W, O, over-append (joined es) (e .bytes) b, joined-more es e))
+      (set-more k (used + length own) (0 + length (joined es) + length (e .bytes)) n′ n (endsFrom 0 es) (endsFrom 0 (es ++ (e ∷ [])))
+      (ap (λ (w : WrittenOut). w .ends) W) (length-ends 0 es ∙ K) N (omega arith) (ends-more 0 es e))
+      (set-more k mark (markOf (e .index)) m′ m (marksOf es) (marksOf (es ++ (e ∷ [])))
+      (ap (λ (w : WrittenOut). w .marks) W) (length-map (λ (a : Element). markOf (a .index)) es ∙ K) M A (map-append (λ (a : Element). markOf (a .index)) es (e ∷ [])))
+      (set-more k number (numberOf (e .index)) x′ x (indexesOf es) (indexesOf (es ++ (e ∷ [])))
+      (ap (λ (w : WrittenOut). w .indexes) W) (length-map (λ (a : Element). numberOf (a .index)) es ∙ K) X I (map-append (λ (a : Element). numberOf (a .index)) es (e ∷ [])))
+
+-- ---- none is written yet, and one turn
+
+pub none-written : (b n m x : List ℕ) → wrote 0 b n m x ≡ written [] b n m x
+unfolding written joined endsFrom over
+none-written b n m x = refl
+
+pub one-written : (f : ℕ → Element) (ps : List ℕ) (i : ℕ) → i < length ps
+    → (b n m x : List ℕ) (used : ℕ) (b′ n′ m′ x′ own t : List ℕ) (mark number : ℕ)
+    → wrote used b′ n′ m′ x′ ≡ written (map f (take i ps)) b n m x
+    → i < length n → i < length m → i < length x
+    → own ≡ f (getD ps i 0) .bytes → mark ≡ markOf (f (getD ps i 0) .index) → number ≡ numberOf (f (getD ps i 0) .index)
+    → t ≡ take used b′ ++ (own ++ drop (used + length own) b′)
+    → wrote (used + length own) t (set n′ i (used + length own)) (set m′ i mark) (set x′ i number) ≡ written (map f (take (i + 1) ps)) b n m x
+one-written f ps i h b n m x used b′ n′ m′ x′ own t mark number W N M X O A I C =
+    let K : length (map f (take i ps)) ≡ i = length-map f (take i ps) ∙ length-take-le i ps (omega arith) in
+    rw (chosen-more f ps i h) (written-more (map f (take i ps)) (f (getD ps i 0)) b n m x i used b′ n′ m′ x′ own t mark number W K N M X O A I C)
+
+-- ---- the element of a turn
+
+pub used-is : (es : List Element) (b n m x : List ℕ) (used : ℕ) (b′ n′ m′ x′ : List ℕ) → wrote used b′ n′ m′ x′ ≡ written es b n m x → used ≡ length (joined es)
+unfolding written
+used-is es b n m x used b′ n′ m′ x′ W = ap (λ (w : WrittenOut). w .len) W
+
+module _ (d n m x : List ℕ) (A : listCheck d n m x ≡ 0) (ps : List ℕ) (P : placeOut (length n) ps ≡ false) (i : ℕ) (h : i < length ps) where
+  pub in-list : getD ps i 0 < length n
+  in-list = place-within (length n) ps i h P
+
+  abbrev there : Element
+  there = elementAt (elements d n m x) (getD ps i 0)
+
+  module _ (own : List ℕ) (O : own ≡ dataAt d n (getD ps i 0)) where
+    pub own-is : own ≡ there .bytes
+    own-is = O ∙ sym (data-there d n m x A (getD ps i 0) in-list)
+
+    pub own-short : length own ≤ 4096
+    own-short = rw O (data-short d n m x A (getD ps i 0) in-list)
+
+    pub own-fits : (used : ℕ) → used ≡ length (joined (chosen (take i ps) d n m x)) → used + length own ≤ length (joined (chosen ps d n m x))
+    own-fits used U = omega (arith, ap length own-is, data-within (elementAt (elements d n m x)) ps i h)
+
+  pub mark-is : (mark : ℕ) → mark ≡ markOf (indexAt m x (getD ps i 0)) → mark ≡ markOf (there .index)
+  mark-is mark e = e ∙ ap markOf (sym (index-there d n m x A (getD ps i 0) in-list))
+
+  pub number-is : (number : ℕ) → number ≡ numberOf (indexAt m x (getD ps i 0)) → number ≡ numberOf (there .index)
+  number-is number e = e ∙ ap numberOf (sym (index-there d n m x A (getD ps i 0) in-list))

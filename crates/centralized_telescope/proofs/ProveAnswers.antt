@@ -1,0 +1,73 @@
+-- The prover's answer by the lines of the table, from the top.
+use mathlib.Core.Path.{_≡_, refl, ap, _∙_}
+use mathlib.Core.Bool.{Bool, true, false, cond}
+use mathlib.Core.List.{List, [], _∷_}
+use Prim.Native.Nat.{ℕ, _+_, _*_, _≤_, _<_}
+use native.Mathlib.Omega.{arith}
+use borrow.Author.Tests.{eq-eqb, ne-eqb, lt-ltb, le-ltb}
+use lib.Dec.{ltb}
+use lib.ListN.{length}
+use Rattle.centralized_telescope.specs.declared.params.Params.{Params}
+use Rattle.centralized_telescope.specs.Params.{checked}
+use Rattle.centralized_telescope.specs.Elements.{elements, listCheck}
+use Rattle.centralized_telescope.specs.ListsLaws.{number-passed, number-met, number-last}
+use Rattle.centralized_telescope.specs.Prover.{Proved, refused, served, workspaceShort, proverRefusal, proved}
+
+module _ (p : Params) (bytes ends marks indexes places table : List ℕ) where
+  abbrev answer : Proved
+  answer = proved p bytes ends marks indexes places table
+
+  refusal-is : (k : ℕ) → proverRefusal p bytes ends marks indexes places table ≡ k → (k ≡ 0 → ⊥) → answer ≡ refused k places table
+  unfolding proved
+  refusal-is k e n = rw (e, ne-eqb k 0 n)
+
+  -- 1, 2, 3
+  pub settings-refused : (k : ℕ) → checked p ≡ (k, 0) → (k ≡ 0 → ⊥) → answer ≡ refused k places table
+  unfolding proverRefusal
+  settings-refused k e n = refusal-is k (rw e (number-met k _ n)) n
+
+  module _ (X : ℕ) (s : checked p ≡ (0, X)) where
+    settings-passed : checked p .0 ≡ 0
+    settings-passed = ap (λ (a : ℕ × ℕ). a .0) s
+
+    -- 4, 5
+    pub list-refused : (k : ℕ) → listCheck bytes ends marks indexes ≡ k → (k ≡ 0 → ⊥) → answer ≡ refused k places table
+    unfolding proverRefusal
+    list-refused k e n = refusal-is k (number-passed (checked p .0) _ settings-passed ∙ rw e (number-met k _ n)) n
+
+    module _ (l : listCheck bytes ends marks indexes ≡ 0) where
+      -- 6
+      short : (b : Bool) → workspaceShort p places table ≡ b → b ≡ true → answer ≡ refused 6 places table
+      unfolding proverRefusal
+      short b e t =
+          refusal-is 6
+          (number-passed (checked p .0) _ settings-passed ∙ number-passed (listCheck bytes ends marks indexes) _ l
+          ∙ rw (e ∙ t) (number-met 6 (cond (ltb (length ends) (p .«set_size»)) 10 0 ∷ []) (λ z. omega arith)))
+          (λ z. omega arith)
+
+      pub places-short : length places < p .«proof_size» → answer ≡ refused 6 places table
+      places-short h = short true (rw (lt-ltb (length places) (p .«proof_size») h)) refl
+
+      module _ (h : p .«proof_size» ≤ length places) where
+        pub table-short : length table < 3 * p .«set_size» + 1 → answer ≡ refused 6 places table
+        table-short t = short true (rw (le-ltb (length places) (p .«proof_size») h, lt-ltb (length table) (3 * p .«set_size» + 1) t)) refl
+
+        module _ (t : 3 * p .«set_size» + 1 ≤ length table) where
+          enough : workspaceShort p places table ≡ false
+          enough = rw (le-ltb (length places) (p .«proof_size») h, le-ltb (length table) (3 * p .«set_size» + 1) t)
+
+          after-six : proverRefusal p bytes ends marks indexes places table ≡ cond (ltb (length ends) (p .«set_size»)) 10 0
+          unfolding proverRefusal
+          after-six =
+              number-passed (checked p .0) _ settings-passed
+              ∙ number-passed (listCheck bytes ends marks indexes) _ l
+              ∙ number-passed (cond (workspaceShort p places table) 6 0) _ (rw enough)
+              ∙ number-last (cond (ltb (length ends) (p .«set_size»)) 10 0)
+
+          -- 10
+          pub few-refused : length ends < p .«set_size» → answer ≡ refused 10 places table
+          few-refused f = refusal-is 10 (after-six ∙ rw (lt-ltb (length ends) (p .«set_size») f)) (λ z. omega arith)
+
+          pub all-served : p .«set_size» ≤ length ends → answer ≡ served p (elements bytes ends marks indexes) places table
+          unfolding proved
+          all-served f = rw (eq-eqb _ 0 (after-six ∙ rw (le-ltb (length ends) (p .«set_size») f)))

@@ -1,0 +1,92 @@
+-- `find_in_ends`: what is found before i, and what is left to find behind it, make what there is to find.
+use mathlib.Core.Path.{_≡_, refl, _∙_}
+use mathlib.Core.Bool.{_||_}
+use Prim.Native.Nat.{_-_, _/_, _≤_, _<_}
+use native.Mathlib.Omega.{arith}
+use borrow.Author.Needs.{needs}
+use lib.ListN.{length, drop}
+use Rattle.centralized_telescope.specs.Elements.{endWrong, dataLong}
+use Rattle.centralized_telescope.specs.Exports.{numbersOf}
+use Rattle.centralized_telescope.proofs.ListFaults.{ends-done, data-done, end-found, data-found, none-left}
+use Rattle.centralized_telescope.proofs.NumbersRead.{length-numbersIn}
+use Rattle.centralized_telescope.proofs.exports.find_in_ends.Statement.{statement}
+use Rattle.centralized_telescope.proofs.exports.find_in_ends.Tie as tie
+
+abbrev Inv-loop : tie.InvT-loop
+Inv-loop ends limit from₀ wrong₀ long₀ i₀ from wrong long i =
+    (i ≤ length ends / 4)
+    × (wrong || endWrong from limit (drop i (numbersOf 4 ends)) ≡ endWrong 0 limit (numbersOf 4 ends))
+    × (long || dataLong from (drop i (numbersOf 4 ends)) ≡ dataLong 0 (numbersOf 4 ends))
+
+abbrev μ-loop : tie.MeasureT-loop
+μ-loop ends limit from₀ wrong₀ long₀ i₀ from wrong long i = length ends / 4 - i
+
+loop-holds : tie.Need-loop-holds Inv-loop μ-loop
+loop-holds c = (search needs, refl, refl)
+
+end-at-requires : tie.Need-end-at-requires Inv-loop μ-loop
+end-at-requires c κs = omega arith
+
+slice-aggregate-some-end-wrong : tie.Need-slice-aggregate-some-end-wrong Inv-loop μ-loop
+slice-aggregate-some-end-wrong c = search needs
+
+some-end-wrong-requires : tie.Need-some-end-wrong-requires Inv-loop μ-loop
+some-end-wrong-requires c κs = search needs
+
+either-requires : tie.Need-either-requires Inv-loop μ-loop
+either-requires c κs = search needs
+
+slice-aggregate-some-data-long : tie.Need-slice-aggregate-some-data-long Inv-loop μ-loop
+slice-aggregate-some-data-long c = search needs
+
+some-data-long-requires : tie.Need-some-data-long-requires Inv-loop μ-loop
+some-data-long-requires c κs = search needs
+
+either-requires-2 : tie.Need-either-requires-2 Inv-loop μ-loop
+either-requires-2 c κs = search needs
+
+add-i : tie.Need-add-i Inv-loop μ-loop
+add-i c = omega (arith, c .before .before .before .before .before .before .before .loop-test .taken)
+
+loop-less : tie.Need-loop-less Inv-loop μ-loop
+loop-less c = omega (arith, c .before .before .before .before .before .before .before .loop-test .taken)
+
+loop-again : tie.Need-loop-again Inv-loop μ-loop
+loop-again c =
+    let t = c .before .before .before .before .before .before .before in
+    let l = t .before .loop in
+    let a = c .before .before .before .before .before .before .before .before .before .before .args in
+    let ns = numbersOf 4 (a .ends .now) in
+    let h : l .i < length ns = omega (arith, length-numbersIn (length (a .ends .now) / 4) 4 (a .ends .now), t .loop-test .taken) in
+    let e = c .before .before .before .before .before .before .end-at in (
+      omega (arith, t .loop-test .taken),
+      end-found ns (l .i) (l .from) (e .result) (l .wrong) _ _ h (e .ensures) (c .before .before .before .either .ensures) (a .limit) (c .before .before .before .before .some-end-wrong .ensures) ∙ l .inv .1,
+      data-found ns (l .i) (l .from) (e .result) (l .long) _ _ h (e .ensures) (c .either2 .ensures) (c .before .some-data-long .ensures) ∙ l .inv .2,
+    )
+
+returns : tie.Need-returns Inv-loop μ-loop
+returns c =
+    let l = c .before .loop in
+    let a = c .before .before .before .args in
+    let ns = numbersOf 4 (a .ends .now) in
+    let h : length ns ≤ l .i = omega (arith, length-numbersIn (length (a .ends .now) / 4) 4 (a .ends .now), c .loop-test .left) in
+    (none-left (l .wrong) _ _ (ends-done ns (l .i) (l .from) (a .limit) 0 h) (l .inv .1), none-left (l .long) _ _ (data-done ns (l .i) (l .from) 0 h) (l .inv .2))
+
+pub find-in-ends-spec : {M : Type 1} → statement M
+find-in-ends-spec =
+    tie.close
+    (tie.spec
+    Inv-loop
+    μ-loop
+    loop-holds
+    end-at-requires
+    slice-aggregate-some-end-wrong
+    some-end-wrong-requires
+    either-requires
+    slice-aggregate-some-data-long
+    some-data-long-requires
+    either-requires-2
+    add-i
+    loop-less
+    loop-again
+    returns)

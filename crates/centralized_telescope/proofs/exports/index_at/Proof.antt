@@ -1,0 +1,22 @@
+-- `index_at`: the eight bytes at the place.
+use mathlib.Core.Path.{sym, _∙_}
+use Prim.Native.Nat.{_/_}
+use lib.ListN.{length}
+use Rattle.centralized_telescope.proofs.NumbersRead.{number-at}
+use borrow.Author.Needs.{needs}
+use Rattle.centralized_telescope.proofs.exports.index_at.Statement.{statement}
+use Rattle.centralized_telescope.proofs.exports.index_at.Tie as tie
+
+mul-number : tie.Need-mul-number
+mul-number c = search needs
+
+number-requires : tie.Need-number-requires
+number-requires c κs = search needs
+
+returns : tie.Need-returns
+returns c =
+    let s = c .before .before in
+    c .number .ensures .0 ∙ sym (number-at (length (s .args .indexes .now) / 8) 8 (s .args .indexes .now) (s .args .place) (s .pre))
+
+pub index-at-spec : {M : Type 1} → statement M
+index-at-spec = tie.close (tie.spec mul-number number-requires returns)

@@ -1,0 +1,101 @@
+-- `verify_bytes`: the settings, the counts of bytes, the list, the room, then the judgement.
+use mathlib.Core.Path.{_≡_, sym, ap, _∙_}
+use Prim.Native.Nat.{ℕ}
+use Rattle.sampling.specs.Sample.{valueOf}
+use Rattle.centralized_telescope.specs.Elements.{listNumber}
+use Rattle.centralized_telescope.specs.Params.{checked, checkedNumber}
+use Rattle.centralized_telescope.specs.Exports.{numbersOf}
+use Rattle.centralized_telescope.proofs.VerdictAnswers.{settings-number, list-number, threshold-passed, list-refused, left-to-judge}
+use Rattle.centralized_telescope.proofs.ExportAnswers.{bytes-settings-refused, ends-not-whole, indexes-not-whole, whole-counts, over-room}
+use borrow.Author.Needs.{needs}
+use Rattle.centralized_telescope.proofs.exports.verify_bytes.Statement.{statement}
+use Rattle.centralized_telescope.proofs.exports.verify_bytes.Tie as tie
+
+-- the settings pass, with X
+lawful-settings : (s : tie.After-settings) → checked (s .before .before .before .before .before .before .before .args .p) ≡ (0, valueOf (s .settings .given .0 .0))
+lawful-settings s = sym (s .before .before .check-params .ensures) ∙ ap checkedNumber (s .settings .given .1)
+
+check-params-requires : tie.Need-check-params-requires
+check-params-requires c κs = search needs
+
+enum-known-settings : tie.Need-enum-known-settings
+enum-known-settings c = search needs
+
+settings-verdict-requires : tie.Need-settings-verdict-requires
+settings-verdict-requires c κs = search needs
+
+returns : tie.Need-returns
+returns c =
+    let s = c .before .before .check-params in
+    let a = c .before .before .before .before .before .before .before .args in
+    bytes-settings-refused (a .p) (a .retry .0) (a .search .0) (a .«data» .now) (a .ends .now) (a .marks .now) (a .indexes .now) _ (c .settings-verdict .ensures ∙ ap (λ (k : ℕ × ℕ). k .0) (s .ensures))
+    (λ e. settings-number (s .result) (c .before .match .keys2) (sym (c .settings-verdict .ensures) ∙ e))
+
+returns-2 : tie.Need-returns-2
+returns-2 c =
+    let a = c .before .before .before .before .before .before .before .before .before .args in
+    ends-not-whole (a .p) (a .retry .0) (a .search .0) (a .«data» .now) (a .ends .now) (a .marks .now) (a .indexes .now) (ap (λ (k : ℕ × ℕ). k .0) (lawful-settings (c .before .before))) (c .if1 .taken)
+
+returns-3 : tie.Need-returns-3
+returns-3 c =
+    let a = c .before .before .before .before .before .before .before .before .before .before .args in
+    indexes-not-whole (a .p) (a .retry .0) (a .search .0) (a .«data» .now) (a .ends .now) (a .marks .now) (a .indexes .now) (ap (λ (k : ℕ × ℕ). k .0) (lawful-settings (c .before .before .before))) (c .before .if1 .left) (c .if2 .taken)
+
+check-bytes-requires : tie.Need-check-bytes-requires
+check-bytes-requires c κs = search needs
+
+enum-told : tie.Need-enum-told
+enum-told c = search needs
+
+list-verdict-requires : tie.Need-list-verdict-requires
+list-verdict-requires c κs = search needs
+
+returns-4 : tie.Need-returns-4
+returns-4 c =
+    let l = c .before .before .check-bytes in
+    let a = c .before .before .before .before .before .before .before .before .before .before .before .before .before .args in
+    list-refused (a .p) (a .retry .0) (a .search .0) (a .«data» .now) (numbersOf 4 (a .ends .now)) (a .marks .now) (numbersOf 8 (a .indexes .now)) (ap (λ (k : ℕ × ℕ). k .0) (lawful-settings (c .before .before .before .before .before .before))) _ (c .list-verdict .ensures ∙ l .ensures)
+    (λ e. list-number (l .result) (c .before .match2 .keys2) (sym (c .list-verdict .ensures) ∙ e))
+    ∙ whole-counts (a .p) (a .retry .0) (a .search .0) (a .«data» .now) (a .ends .now) (a .marks .now) (a .indexes .now) (c .before .before .before .before .if1 .left) (c .before .before .before .if2 .left)
+
+returns-5 : tie.Need-returns-5
+returns-5 c =
+    let a = c .before .before .before .before .before .before .before .before .before .before .before .before .before .before .args in
+    let s = lawful-settings (c .before .before .before .before .before .before .before) in
+    let l = sym (c .before .before .before .check-bytes .ensures) ∙ ap listNumber (c .before .enum-told .given .1) in
+    over-room (a .p) (a .retry .0) (a .search .0) (a .«data» .now) (numbersOf 4 (a .ends .now)) (a .marks .now) (numbersOf 8 (a .indexes .now)) _ s l (c .if3 .taken)
+    ∙ left-to-judge (a .p) (a .retry .0) (a .search .0) (a .«data» .now) (numbersOf 4 (a .ends .now)) (a .marks .now) (numbersOf 8 (a .indexes .now)) (ap (λ (k : ℕ × ℕ). k .0) s) l
+    ∙ whole-counts (a .p) (a .retry .0) (a .search .0) (a .«data» .now) (a .ends .now) (a .marks .now) (a .indexes .now) (c .before .before .before .before .before .if1 .left) (c .before .before .before .before .if2 .left)
+
+judge-bytes-requires : tie.Need-judge-bytes-requires
+judge-bytes-requires c κs = (
+  threshold-passed (c .before .before .before .before .before .before .before .before .before .before .before .before .before .before .args .p) (valueOf (c .before .before .before .before .before .before .before .settings .given .0 .0)) (lawful-settings (c .before .before .before .before .before .before .before)),
+  sym (c .before .before .before .check-bytes .ensures) ∙ ap listNumber (c .before .enum-told .given .1),
+  c .if3 .left,
+)
+
+returns-6 : tie.Need-returns-6
+returns-6 c =
+    let a = c .before .before .before .before .before .before .before .before .before .before .before .before .before .before .before .args in
+    let l = sym (c .before .before .before .before .check-bytes .ensures) ∙ ap listNumber (c .before .before .enum-told .given .1) in
+    c .judge-bytes .ensures
+    ∙ left-to-judge (a .p) (a .retry .0) (a .search .0) (a .«data» .now) (numbersOf 4 (a .ends .now)) (a .marks .now) (numbersOf 8 (a .indexes .now)) (ap (λ (k : ℕ × ℕ). k .0) (lawful-settings (c .before .before .before .before .before .before .before .before))) l
+    ∙ whole-counts (a .p) (a .retry .0) (a .search .0) (a .«data» .now) (a .ends .now) (a .marks .now) (a .indexes .now) (c .before .before .before .before .before .before .if1 .left) (c .before .before .before .before .before .if2 .left)
+
+pub verify-bytes-spec : {M : Type 1} → statement M
+verify-bytes-spec =
+    tie.close
+    (tie.spec
+    check-params-requires
+    enum-known-settings
+    settings-verdict-requires
+    returns
+    returns-2
+    returns-3
+    check-bytes-requires
+    enum-told
+    list-verdict-requires
+    returns-4
+    returns-5
+    judge-bytes-requires
+    returns-6)

@@ -1,0 +1,401 @@
+-- Visit and walk call each other. The number that falls is made of the remaining length and the remaining places of a bin.
+use mathlib.Core.Path.{_≡_, ap, sym, _∙_, subst}
+use mathlib.Core.Logic.{⊎-elim}
+use mathlib.Core.List.{List}
+use Prim.Native.Nat.{ℕ, _+_, _-_, _≤_, _<_}
+use native.Mathlib.Nat.{le-refl}
+use native.Mathlib.Omega.{arith}
+use borrow.Author.Needs.{needs}
+use lib.ListN.{length, take, getD, length-set}
+use lib.Seq.{slice, length-take-le, take-set-le}
+use Rattle.centralized_telescope.specs.Chains.{Try}
+use Rattle.sampling.specs.Sample.{valueOf}
+use Rattle.centralized_telescope.specs.Rounds.{idOption}
+use Rattle.centralized_telescope.specs.TryLaws.{id-below}
+use Rattle.centralized_telescope.specs.Visit.{tryOn, walked, Ready}
+use Rattle.centralized_telescope.proofs.Measure.{left, to-walk, to-visit}
+use Rattle.centralized_telescope.proofs.TableFacts.{set-size-most, proof-size-most, bound-most, yes-is, table-all, table-most, entry-there, bin-span, bin-read, bin-short}
+use Rattle.centralized_telescope.proofs.Walked.{visited-walk, visited-pass, visited-fail, by-walk, by-leaf}
+use Rattle.centralized_telescope.proofs.Turn.{stopped, at-end, at-bound, turn-nothing, turn-missing, turn-found, turn-write}
+use borrow.Fn.Kinds.{In}
+use borrow.Fn.PlainCycle.{Measures, is, falls, and}
+use Rattle.centralized_telescope.proofs.proof.visit.Reads as visit
+use Rattle.centralized_telescope.proofs.proof.visit.Kinds as visit-kinds
+use Rattle.centralized_telescope.proofs.proof.+visit+walk.Lts-visit as visit-lts
+use Rattle.centralized_telescope.proofs.proof.walk.Reads as walk
+use Rattle.centralized_telescope.proofs.proof.walk.Kinds as walk-kinds
+use Rattle.centralized_telescope.proofs.proof.+visit+walk.Lts-walk as walk-lts
+use Rattle.centralized_telescope.proofs.proof.write_places.Reads as write-places-reads
+use Rattle.centralized_telescope.proofs.round.next_hash.Reads as next-hash-reads
+use Rattle.centralized_telescope.proofs.round.round_id.Reads as round-id-reads
+use Rattle.centralized_telescope.proofs.round.says_yes.Reads as says-yes-reads
+use Rattle.centralized_telescope.proofs.types.wide.Reads as wide-reads
+use Rattle.centralized_telescope.proofs.proof.+visit+walk.{statement}
+use Rattle.centralized_telescope.proofs.proof.+visit+walk.Tie.{close}
+
+abbrev μ-visit : Measures 6 visit-kinds.ps ℕ
+μ-visit κs a =
+    let l : ℕ = length (a .1 .1 .1 .1 .1 .1 .1 .1 .0 .now) in
+    left (a .0 .«proof_size» - a .1 .1 .1 .1 .1 .1 .1 .1 .1 .1 .1 .1 .0) l (l + 1)
+
+abbrev μ-walk : Measures 6 walk-kinds.ps ℕ
+μ-walk κs a =
+    left (a .0 .«proof_size» - a .1 .1 .1 .1 .1 .1 .1 .1 .1 .1 .1 .0) (length (a .1 .1 .1 .1 .1 .1 .1 .1 .0 .now)) (a .1 .1 .1 .1 .1 .1 .1 .1 .1 .1 .1 .1 .1 .0 - a .1 .1 .1 .1 .1 .1 .1 .1 .1 .1 .1 .1 .0)
+
+abbrev visit-at : ℕ → In 6 visit-kinds.ps
+visit-at t = and 6 visit-kinds.ps (is 6 visit-kinds.ps μ-visit t) visit.Pre
+
+abbrev visit-below : ℕ → In 6 visit-kinds.ps
+visit-below t = and 6 visit-kinds.ps (falls 6 visit-kinds.ps _<_ μ-visit t) visit.Pre
+
+abbrev walk-at : ℕ → In 6 walk-kinds.ps
+walk-at t = and 6 walk-kinds.ps (is 6 walk-kinds.ps μ-walk t) walk.Pre
+
+abbrev walk-below : ℕ → In 6 walk-kinds.ps
+walk-below t = and 6 walk-kinds.ps (falls 6 walk-kinds.ps _<_ μ-walk t) walk.Pre
+
+-- what the calls of each promise
+abbrev visit-claims : ℕ → visit-lts.Claims
+visit-claims t = (wide-reads.Asked, wide-reads.Learnt, walk-below t, walk.Post, says-yes-reads.Asked, says-yes-reads.Learnt)
+
+abbrev walk-claims : ℕ → walk-lts.Claims
+walk-claims t = (
+  wide-reads.Asked,
+  wide-reads.Learnt,
+  next-hash-reads.Asked,
+  next-hash-reads.Learnt,
+  round-id-reads.Asked,
+  round-id-reads.Learnt,
+  visit-below t,
+  visit.Post,
+  write-places-reads.Asked,
+  write-places-reads.Learnt,
+)
+
+-- the path below the depth is as long as that
+visit-path : (t : ℕ) (o : visit-lts.Start (visit-claims t) (visit-at t) visit.Post) → length (take (o .args .depth) (o .args .path)) ≡ o .args .depth
+visit-path t o =
+    let e : length (o .args .path) ≡ 1024 = o .good .1 .1 .1 .1 .1 .1 .1 .1 .1 .1 .1 .0 .1 .0 .1 in
+    length-take-le (o .args .depth) (o .args .path) (omega (arith, o .pre .1 .1, proof-size-most _ _ _ _ _ _ _ _ _ (o .pre .1 .0)))
+
+visit-add-base : (t : ℕ) → visit-lts.Need-add-base (visit-claims t) (visit-at t) visit.Post
+visit-add-base t c = let o = c .before .before .before .before .before .before .before in omega (arith, set-size-most _ _ _ _ _ _ _ _ _ (o .pre .1 .0))
+
+visit-mul-wide : (t : ℕ) → visit-lts.Need-mul-wide (visit-claims t) (visit-at t) visit.Post
+visit-mul-wide t c = let o = c .before .before .before .before .before .before .before in omega (arith, o .pre .1 .1, set-size-most _ _ _ _ _ _ _ _ _ (o .pre .1 .0))
+
+visit-shared-slice-read-wide : (t : ℕ) → visit-lts.Need-shared-slice-read-wide (visit-claims t) (visit-at t) visit.Post
+visit-shared-slice-read-wide t c = let o = c .before .before .before .before .before .before .before .before in omega (arith, table-all _ _ _ _ _ _ _ _ _ (o .pre .1 .0), o .pre .1 .1)
+
+visit-wide-requires : (t : ℕ) → visit-lts.Need-wide-requires (visit-claims t) (visit-at t) visit.Post
+visit-wide-requires t c κs = search needs
+
+visit-add-from : (t : ℕ) → visit-lts.Need-add-from (visit-claims t) (visit-at t) visit.Post
+visit-add-from t c = let o = c .before .before .before .before .before .before .before .before .before in omega (arith, c .wide .ensures, set-size-most _ _ _ _ _ _ _ _ _ (o .pre .1 .0))
+
+visit-add-wide : (t : ℕ) → visit-lts.Need-add-wide (visit-claims t) (visit-at t) visit.Post
+visit-add-wide t c = let o = c .before .before .before .before .before .before .before .before .before in omega (arith, o .pre .1 .1, set-size-most _ _ _ _ _ _ _ _ _ (o .pre .1 .0))
+
+visit-mul-wide-2 : (t : ℕ) → visit-lts.Need-mul-wide-2 (visit-claims t) (visit-at t) visit.Post
+visit-mul-wide-2 t c = let o = c .before .before .before .before .before .before .before .before .before in omega (arith, o .pre .1 .1, set-size-most _ _ _ _ _ _ _ _ _ (o .pre .1 .0))
+
+visit-shared-slice-read-wide-2 : (t : ℕ) → visit-lts.Need-shared-slice-read-wide-2 (visit-claims t) (visit-at t) visit.Post
+visit-shared-slice-read-wide-2 t c = let o = c .before .before .before .before .before .before .before .before .before .before in omega (arith, table-all _ _ _ _ _ _ _ _ _ (o .pre .1 .0), o .pre .1 .1)
+
+visit-wide-requires-2 : (t : ℕ) → visit-lts.Need-wide-requires-2 (visit-claims t) (visit-at t) visit.Post
+visit-wide-requires-2 t c κs = search needs
+
+visit-add-to : (t : ℕ) → visit-lts.Need-add-to (visit-claims t) (visit-at t) visit.Post
+visit-add-to t c = let o = c .before .before .before .before .before .before .before .before .before .before .before in omega (arith, c .wide2 .ensures, set-size-most _ _ _ _ _ _ _ _ _ (o .pre .1 .0))
+
+visit-add-walk : (t : ℕ) → visit-lts.Need-add-walk (visit-claims t) (visit-at t) visit.Post
+visit-add-walk t c = let o = c .before .before .before .before .before .before .before .before .before .before .before in omega (arith, o .pre .1 .1, bound-most _ _ _ _ _ _ _ _ _ (o .pre .1 .0))
+
+visit-walk-requires : (t : ℕ) → visit-lts.Need-walk-requires (visit-claims t) (visit-at t) visit.Post
+visit-walk-requires t c κs =
+    let o = c .before .before .before .before .before .before .before .before .before .before .before .before in
+    let a = o .args in
+    let f = c .before .before .before .wide .ensures .0 in
+    let g = c .before .wide2 .ensures .0 in
+    let rest = a .p .«set_size» + 1 + c .before .wide2 .result - (a .p .«set_size» + 1 + c .before .before .before .wide .result) in
+    let short : rest ≤ length (a .table .now) = bin-short _ _ _ _ _ _ _ _ _ (o .pre .1 .0) (a .id) (o .pre .1 .1 .0) _ _ f g in (
+      subst (λ (j : ℕ). left (a .p .«proof_size» - a .depth) (length (a .table .now)) rest < j) (o .pre .0) (to-walk _ _ rest short),
+      (
+        o .pre .1 .0,
+        (bin-span _ _ _ _ _ _ _ _ _ (o .pre .1 .0) (a .id) (o .pre .1 .1 .0) _ _ f g, (c .before .before .before .before .before .if1 .taken, omega (arith, o .pre .1 .1))),
+      ),
+    )
+
+visit-same-length : (t : ℕ) → visit-lts.Need-same-length (visit-claims t) (visit-at t) visit.Post
+visit-same-length t c = search needs
+
+visit-returns : (t : ℕ) → visit-lts.Need-returns (visit-claims t) (visit-at t) visit.Post
+visit-returns t c =
+    let o = c .before .before .before .before .before .before .before .before .before .before .before .before .before .before .before in
+    let a = o .args in
+    let T = tryOn (a .p) (a .«data» .now) (a .ends .now) (a .marks .now) (a .indexes .now) (a .retry .0) in
+    let l = c .before .before .before .before .before .before .before .before .if1 .taken in
+    let bin = bin-read _ _ _ _ _ _ _ _ _ (o .pre .1 .0) (a .id) (o .pre .1 .1 .0) _ _ (c .before .before .before .before .before .before .wide .ensures .0) (c .before .before .before .before .wide2 .ensures .0) in
+    by-walk (a .p) (a .depth) _ _ _ _ _ l
+    (visited-walk T (a .search .0) (a .h) (a .id) (take (a .depth) (a .path)) (a .depth) (a .steps) (visit-path t o) (o .pre .1 .1 .2) l
+    ∙ ap (λ (es : List ℕ). walked T (a .search .0) (a .h) (take (a .depth) (a .path)) (a .depth) es (a .steps + 1)) (sym bin))
+    (c .before .before .walk .ensures)
+
+visit-says-yes-requires : (t : ℕ) → visit-lts.Need-says-yes-requires (visit-claims t) (visit-at t) visit.Post
+visit-says-yes-requires t c κs = search needs
+
+visit-add-t32 : (t : ℕ) → visit-lts.Need-add-t32 (visit-claims t) (visit-at t) visit.Post
+visit-add-t32 t c = let o = c .before .before .before .before .before .before .before .before .before in omega (arith, o .pre .1 .1, bound-most _ _ _ _ _ _ _ _ _ (o .pre .1 .0))
+
+visit-returns-2 : (t : ℕ) → visit-lts.Need-returns-2 (visit-claims t) (visit-at t) visit.Post
+visit-returns-2 t c =
+    let o = c .before .before .before .before .before .before .before .before .before in
+    let a = o .args in
+    let T = tryOn (a .p) (a .«data» .now) (a .ends .now) (a .marks .now) (a .indexes .now) (a .retry .0) in
+    let l = c .before .before .if1 .left in
+    by-leaf (a .p) (a .depth) _ _ (a .places .now) l
+    (visited-pass T (a .search .0) (a .h) (a .id) (take (a .depth) (a .path)) (a .depth) (a .steps) (visit-path t o) (o .pre .1 .1 .2) (omega (arith, o .pre .1 .1))
+    (yes-is _ _ _ _ _ _ _ _ _ (o .pre .1 .0) (a .h) ∙ sym (c .before .says-yes .ensures) ∙ c .if2 .taken))
+
+visit-add-t33 : (t : ℕ) → visit-lts.Need-add-t33 (visit-claims t) (visit-at t) visit.Post
+visit-add-t33 t c = let o = c .before .before .before .before .before .before .before .before .before in omega (arith, o .pre .1 .1, bound-most _ _ _ _ _ _ _ _ _ (o .pre .1 .0))
+
+visit-returns-3 : (t : ℕ) → visit-lts.Need-returns-3 (visit-claims t) (visit-at t) visit.Post
+visit-returns-3 t c =
+    let o = c .before .before .before .before .before .before .before .before .before in
+    let a = o .args in
+    let T = tryOn (a .p) (a .«data» .now) (a .ends .now) (a .marks .now) (a .indexes .now) (a .retry .0) in
+    let l = c .before .before .if1 .left in
+    by-leaf (a .p) (a .depth) _ _ (a .places .now) l
+    (visited-fail T (a .search .0) (a .h) (a .id) (take (a .depth) (a .path)) (a .depth) (a .steps) (visit-path t o) (o .pre .1 .1 .2) (omega (arith, o .pre .1 .1))
+    (yes-is _ _ _ _ _ _ _ _ _ (o .pre .1 .0) (a .h) ∙ sym (c .before .says-yes .ensures) ∙ c .if2 .left))
+
+abbrev walk-Inv-loop : walk-lts.InvT-loop
+walk-Inv-loop p x retry search «data» ends marks indexes table h depth from to steps places₀ size count₀ i₀ next₀ places count i next =
+    let T : Try = tryOn p «data» ends marks indexes (retry .0) in
+    (from ≤ i) × (i ≤ to) × (count ≤ p .«dfs_bound») × (length next ≡ 1024) × (take depth next ≡ take depth next₀) × (places ≡ places₀)
+    × (walked T (search .0) h (take depth next₀) depth (slice from to table) steps ≡ walked T (search .0) h (take depth next₀) depth (slice i to table) count)
+
+abbrev walk-μ-loop : walk-lts.MeasureT-loop
+walk-μ-loop p x retry search «data» ends marks indexes table h depth from to steps places₀ size count₀ i₀ next₀ places count i next = to - i
+
+walk-loop-holds : (t : ℕ) → walk-lts.Need-loop-holds (walk-claims t) (walk-at t) walk.Post walk-Inv-loop walk-μ-loop
+walk-loop-holds t c = search needs
+
+walk-same-length : (t : ℕ) → walk-lts.Need-same-length (walk-claims t) (walk-at t) walk.Post walk-Inv-loop walk-μ-loop
+walk-same-length t c = search needs
+
+walk-returns : (t : ℕ) → walk-lts.Need-returns (walk-claims t) (walk-at t) walk.Post walk-Inv-loop walk-μ-loop
+walk-returns t c =
+    let o = c .before .before .before .before .before .before .before .before .before .before in
+    let a = o .args in
+    let v = c .before .before .before .loop in
+    stopped _ _ _ _
+    (at-bound _ _ _ _ _ _ _ _ _ (o .pre .1 .0) (a .search .0) (a .h) (take (a .depth) (a .path)) (a .depth) (a .from) (a .to) (o .pre .1 .1 .0) (v .i) (v .count) _ (v .inv .6) (c .if1 .taken))
+    (v .inv .5)
+
+walk-mul-place : (t : ℕ) → walk-lts.Need-mul-place (walk-claims t) (walk-at t) walk.Post walk-Inv-loop walk-μ-loop
+walk-mul-place t c = let o = c .before .before .before .before .before .before .before .before .before .before in omega (arith, o .pre .1 .1 .0 .high, table-most _ _ _ _ _ _ _ _ _ (o .pre .1 .0), set-size-most _ _ _ _ _ _ _ _ _ (o .pre .1 .0), c .before .before .loop-test .taken)
+
+walk-shared-slice-read-place : (t : ℕ) → walk-lts.Need-shared-slice-read-place (walk-claims t) (walk-at t) walk.Post walk-Inv-loop walk-μ-loop
+walk-shared-slice-read-place t c = let o = c .before .before .before .before .before .before .before .before .before .before .before in omega (arith, table-all _ _ _ _ _ _ _ _ _ (o .pre .1 .0), o .pre .1 .1 .0 .high, c .before .before .before .loop-test .taken)
+
+walk-wide-requires : (t : ℕ) → walk-lts.Need-wide-requires (walk-claims t) (walk-at t) walk.Post walk-Inv-loop walk-μ-loop
+walk-wide-requires t c κs = search needs
+
+walk-next-hash-requires : (t : ℕ) → walk-lts.Need-next-hash-requires (walk-claims t) (walk-at t) walk.Post walk-Inv-loop walk-μ-loop
+walk-next-hash-requires t c κs =
+    let o = c .before .before .before .before .before .before .before .before .before .before .before .before in
+    let v = c .before .before .before .before .before .loop in
+    let there = entry-there _ _ _ _ _ _ _ _ _ (o .pre .1 .0) (v .i) (omega (arith, o .pre .1 .1 .0 .low, v .inv .0)) (omega (arith, o .pre .1 .1 .0 .high, c .before .before .before .before .loop-test .taken)) in
+    (o .pre .1 .0 .list, omega (arith, there, c .wide .ensures .0))
+
+walk-round-id-requires : (t : ℕ) → walk-lts.Need-round-id-requires (walk-claims t) (walk-at t) walk.Post walk-Inv-loop walk-μ-loop
+walk-round-id-requires t c κs = search needs
+
+walk-enum-known-drawn : (t : ℕ) → walk-lts.Need-enum-known-drawn (walk-claims t) (walk-at t) walk.Post walk-Inv-loop walk-μ-loop
+walk-enum-known-drawn t c = search needs
+
+walk-mul-next : (t : ℕ) → walk-lts.Need-mul-next (walk-claims t) (walk-at t) walk.Post walk-Inv-loop walk-μ-loop
+walk-mul-next t c = let o = c .before .before .before .before .before .before .before .before .before .before .before .before .before .before .before .before .before in omega (arith, proof-size-most _ _ _ _ _ _ _ _ _ (o .pre .1 .0), o .pre .1 .1 .1 .0)
+
+walk-array-write-next : (t : ℕ) → walk-lts.Need-array-write-next (walk-claims t) (walk-at t) walk.Post walk-Inv-loop walk-μ-loop
+walk-array-write-next t c = let o = c .before .before .before .before .before .before .before .before .before .before .before .before .before .before .before .before .before in omega (arith, proof-size-most _ _ _ _ _ _ _ _ _ (o .pre .1 .0), o .pre .1 .1 .1 .0, c .before .before .before .before .before .before .before .before .before .before .loop .inv .3)
+
+walk-add-visit : (t : ℕ) → walk-lts.Need-add-visit (walk-claims t) (walk-at t) walk.Post walk-Inv-loop walk-μ-loop
+walk-add-visit t c = search needs
+
+walk-visit-requires : (t : ℕ) → walk-lts.Need-visit-requires (walk-claims t) (walk-at t) walk.Post walk-Inv-loop walk-μ-loop
+walk-visit-requires t c κs =
+    let o = c .before .before .before .before .before .before .before .before .before .before .before .before .before .before .before .before .before .before in
+    let a = o .args in
+    let v = c .before .before .before .before .before .before .before .before .before .before .before .loop in
+    let T = tryOn (a .p) (a .«data» .now) (a .ends .now) (a .marks .now) (a .indexes .now) (a .retry .0) in (
+      subst (λ (j : ℕ). left (a .p .«proof_size» - (a .depth + 1)) (length (a .table .now)) (length (a .table .now) + 1) < j) (o .pre .0)
+          (to-visit (a .p .«proof_size») (a .depth) (length (a .table .now)) (a .to - a .from) (o .pre .1 .1 .1 .0)),
+      (
+        subst (λ (l : List ℕ). Ready (a .p) (valueOf (a .x)) (a .«data» .now) (a .ends .now) (a .marks .now) (a .indexes .now) (a .retry .0) (a .table .now) (length l)) (sym (v .inv .5)) (o .pre .1 .0),
+        (
+          id-below T _ _ (sym (c .before .before .before .before .round-id .ensures) ∙ ap idOption (c .before .before .drawn .given .1)),
+          omega (arith, o .pre .1 .1 .1 .0),
+          c .before .before .before .before .before .before .before .before .if1 .left,
+        ),
+      ),
+    )
+
+walk-enum-known-outcome : (t : ℕ) → walk-lts.Need-enum-known-outcome (walk-claims t) (walk-at t) walk.Post walk-Inv-loop walk-μ-loop
+walk-enum-known-outcome t c = search needs
+
+walk-add-if2 : (t : ℕ) → walk-lts.Need-add-if2 (walk-claims t) (walk-at t) walk.Post walk-Inv-loop walk-μ-loop
+walk-add-if2 t c = let o = c .before .before .before .before .before .before .before .before .before .before .before .before .before .before .before .before .before .before .before .before .before .before .before .before in omega (arith, o .pre .1 .1 .1 .0, proof-size-most _ _ _ _ _ _ _ _ _ (o .pre .1 .0))
+
+walk-write-places-requires : (t : ℕ) → walk-lts.Need-write-places-requires (walk-claims t) (walk-at t) walk.Post walk-Inv-loop walk-μ-loop
+walk-write-places-requires t c κs =
+    let o = c .before .before .before .before .before .before .before .before .before .before .before .before .before .before .before .before .before .before .before .before .before .before .before .before .before .before in
+    let v = c .before .before .before .before .before .before .before .before .before .before .before .before .before .before .before .before .before .before .before .loop in
+    (proof-size-most _ _ _ _ _ _ _ _ _ (o .pre .1 .0), omega (arith, o .pre .1 .0 .roomy, c .before .before .before .before .before .before .before .visit .kept .1 .1 .1 .1 .1 .1 .1 .1 .1 .1 .1 .1 .1 .1 .0, ap length (v .inv .5)))
+
+walk-same-length-2 : (t : ℕ) → walk-lts.Need-same-length-2 (walk-claims t) (walk-at t) walk.Post walk-Inv-loop walk-μ-loop
+walk-same-length-2 t c = c .before .before .write-places .kept .1 .1 .0 ∙ c .before .before .before .before .before .before .before .before .before .before .visit .kept .1 .1 .1 .1 .1 .1 .1 .1 .1 .1 .1 .1 .1 .1 .0 ∙ ap length (c .before .before .before .before .before .before .before .before .before .before .before .before .before .before .before .before .before .before .before .before .before .before .loop .inv .5)
+
+walk-returns-2 : (t : ℕ) → walk-lts.Need-returns-2 (walk-claims t) (walk-at t) walk.Post walk-Inv-loop walk-μ-loop
+walk-returns-2 t c =
+    let o = c .before .before .before .before .before .before .before .before .before .before .before .before .before .before .before .before .before .before .before .before .before .before .before .before .before .before .before .before .before in
+    let a = o .args in
+    let v = c .before .before .before .before .before .before .before .before .before .before .before .before .before .before .before .before .before .before .before .before .before .before .loop in
+    let ln : a .depth < length (v .next) = omega (arith, proof-size-most _ _ _ _ _ _ _ _ _ (o .pre .1 .0), o .pre .1 .1 .1 .0, v .inv .3) in
+    turn-write _ _ _ _ _ _ _ _ _ (o .pre .1 .0) (a .search .0) (a .h) (take (a .depth) (a .path)) (a .depth) (a .from) (a .to) (o .pre .1 .1 .0) (v .i) (v .count) _ (v .inv .6) (v .inv .0) (c .before .before .before .before .before .before .before .before .before .before .before .before .before .before .before .before .before .before .before .before .before .loop-test .taken)
+    _ (c .before .before .before .before .before .before .before .before .before .before .before .before .before .before .before .before .before .wide .ensures .0) _ (c .before .before .before .before .before .before .before .before .before .before .before .before .before .before .before .before .next-hash .ensures) _ (c .before .before .before .before .before .before .before .before .before .before .before .before .before .before .before .round-id .ensures)
+    _ (c .before .before .before .before .before .before .before .before .before .before .before .before .before .drawn .given .1) (v .next) ln (v .inv .4) (c .before .before .before .before .before .before .before .before .before .before .before .before .before .before .before .before .before .before .before .if1 .left) _ _ (v .places) (a .places .now) (v .inv .5) (c .before .before .before .before .before .before .before .before .before .before .visit .ensures)
+    _ (c .before .before .before .before .before .before .outcome .given .1) (c .before .before .before .before .if2 .taken) _ (c .before .before .write-places .ensures)
+
+walk-same-length-3 : (t : ℕ) → walk-lts.Need-same-length-3 (walk-claims t) (walk-at t) walk.Post walk-Inv-loop walk-μ-loop
+walk-same-length-3 t c = c .before .before .before .before .before .before .visit .kept .1 .1 .1 .1 .1 .1 .1 .1 .1 .1 .1 .1 .1 .1 .0 ∙ ap length (c .before .before .before .before .before .before .before .before .before .before .before .before .before .before .before .before .before .before .loop .inv .5)
+
+walk-returns-3 : (t : ℕ) → walk-lts.Need-returns-3 (walk-claims t) (walk-at t) walk.Post walk-Inv-loop walk-μ-loop
+walk-returns-3 t c =
+    let o = c .before .before .before .before .before .before .before .before .before .before .before .before .before .before .before .before .before .before .before .before .before .before .before .before .before in
+    let a = o .args in
+    let v = c .before .before .before .before .before .before .before .before .before .before .before .before .before .before .before .before .before .before .loop in
+    let ln : a .depth < length (v .next) = omega (arith, proof-size-most _ _ _ _ _ _ _ _ _ (o .pre .1 .0), o .pre .1 .1 .1 .0, v .inv .3) in
+    turn-found _ _ _ _ _ _ _ _ _ (o .pre .1 .0) (a .search .0) (a .h) (take (a .depth) (a .path)) (a .depth) (a .from) (a .to) (o .pre .1 .1 .0) (v .i) (v .count) _ (v .inv .6) (v .inv .0) (c .before .before .before .before .before .before .before .before .before .before .before .before .before .before .before .before .before .loop-test .taken)
+    _ (c .before .before .before .before .before .before .before .before .before .before .before .before .before .wide .ensures .0) _ (c .before .before .before .before .before .before .before .before .before .before .before .before .next-hash .ensures) _ (c .before .before .before .before .before .before .before .before .before .before .before .round-id .ensures)
+    _ (c .before .before .before .before .before .before .before .before .before .drawn .given .1) (v .next) ln (v .inv .4) (c .before .before .before .before .before .before .before .before .before .before .before .before .before .before .before .if1 .left) _ _ (v .places) (a .places .now) (v .inv .5) (c .before .before .before .before .before .before .visit .ensures)
+    _ (c .before .before .outcome .given .1) (o .pre .1 .1 .1 .0) (c .if2 .left)
+
+walk-enum-known-outcome-2 : (t : ℕ) → walk-lts.Need-enum-known-outcome-2 (walk-claims t) (walk-at t) walk.Post walk-Inv-loop walk-μ-loop
+walk-enum-known-outcome-2 t c = search needs
+
+walk-enum-told : (t : ℕ) → walk-lts.Need-enum-told (walk-claims t) (walk-at t) walk.Post walk-Inv-loop walk-μ-loop
+walk-enum-told t c = search needs
+
+walk-add-i : (t : ℕ) → walk-lts.Need-add-i (walk-claims t) (walk-at t) walk.Post walk-Inv-loop walk-μ-loop
+walk-add-i t c = search needs
+
+walk-loop-less : (t : ℕ) → walk-lts.Need-loop-less (walk-claims t) (walk-at t) walk.Post walk-Inv-loop walk-μ-loop
+walk-loop-less t c = search needs
+
+walk-loop-again : (t : ℕ) → walk-lts.Need-loop-again (walk-claims t) (walk-at t) walk.Post walk-Inv-loop walk-μ-loop
+walk-loop-again t c =
+    let o = c .before .before .before .before .before .before .before .before .before .before .before .before .before .before .before in
+    let a = o .args in
+    let v = c .before .before .before .before .before .before .before .before .loop in
+    let e = getD (a .table .now) (v .i) 0 in
+    let T = tryOn (a .p) (a .«data» .now) (a .ends .now) (a .marks .now) (a .indexes .now) (a .retry .0) in
+    let ln : a .depth < length (v .next) = omega (arith, proof-size-most _ _ _ _ _ _ _ _ _ (o .pre .1 .0), o .pre .1 .1 .1 .0, v .inv .3) in
+    let lo : a .from ≤ v .i + 1 = omega (arith, v .inv .0) in
+    let hi : v .i + 1 ≤ a .to = omega (arith, c .before .before .before .before .before .before .before .loop-test .taken) in
+    ⊎-elim
+    (λ w.
+    let r = turn-missing _ _ _ _ _ _ _ _ _ (o .pre .1 .0) (a .search .0) (a .h) (take (a .depth) (a .path)) (a .depth) (a .from) (a .to) (o .pre .1 .1 .0) (v .i) (v .count) _ (v .inv .6) (v .inv .0) (c .before .before .before .before .before .before .before .loop-test .taken)
+    _ (c .before .before .before .wide .ensures .0) _ (c .before .before .next-hash .ensures) _ (c .before .round-id .ensures)
+    _ (w .1 .given .1) (v .next) ln (v .inv .4) (c .before .before .before .before .before .if1 .left) _ _ (v .places) (a .places .now) (v .inv .5) (w .4 .ensures)
+    _ (w .8 .given .1) in (
+      lo,
+      hi,
+      subst (λ (k : ℕ). k ≤ a .p .«dfs_bound») (sym (w .11)) (r .1),
+      ap length (w .12) ∙ length-set (v .next) (a .depth) e ∙ v .inv .3,
+      ap (take (a .depth)) (w .12) ∙ take-set-le (a .depth) (v .next) (a .depth) e (le-refl (a .depth)) ∙ v .inv .4,
+      w .10 ∙ r .2,
+      r .0 ∙ ap (walked T (a .search .0) (a .h) (take (a .depth) (a .path)) (a .depth) (slice (v .i + 1) (a .to) (a .table .now))) (sym (w .11)),
+    ))
+    (λ w.
+    let r = turn-nothing _ _ _ _ _ _ _ _ _ (o .pre .1 .0) (a .search .0) (a .h) (take (a .depth) (a .path)) (a .depth) (a .from) (a .to) (o .pre .1 .1 .0) (v .i) (v .count) _ (v .inv .6) (v .inv .0) (c .before .before .before .before .before .before .before .loop-test .taken)
+    _ (c .before .before .before .wide .ensures .0) _ (c .before .before .next-hash .ensures) _ (c .before .round-id .ensures) (w .1 .given .1) in (
+      lo,
+      hi,
+      subst (λ (k : ℕ). k ≤ a .p .«dfs_bound») (sym (w .3)) (v .inv .2),
+      ap length (w .4) ∙ v .inv .3,
+      ap (take (a .depth)) (w .4) ∙ v .inv .4,
+      w .2 ∙ v .inv .5,
+      r ∙ ap (walked T (a .search .0) (a .h) (take (a .depth) (a .path)) (a .depth) (slice (v .i + 1) (a .to) (a .table .now))) (sym (w .3)),
+    ))
+    (c .match .came)
+
+walk-same-length-4 : (t : ℕ) → walk-lts.Need-same-length-4 (walk-claims t) (walk-at t) walk.Post walk-Inv-loop walk-μ-loop
+walk-same-length-4 t c = search needs
+
+walk-returns-4 : (t : ℕ) → walk-lts.Need-returns-4 (walk-claims t) (walk-at t) walk.Post walk-Inv-loop walk-μ-loop
+walk-returns-4 t c =
+    let o = c .before .before .before .before .before .before .before .before in
+    let a = o .args in
+    let v = c .before .loop in
+    stopped _ _ _ _
+    (at-end _ _ _ _ _ _ _ _ _ (o .pre .1 .0) (a .search .0) (a .h) (take (a .depth) (a .path)) (a .depth) (a .from) (a .to) (o .pre .1 .1 .0) (v .i) (v .count) _ (v .inv .6) (c .loop-test .left) (v .inv .1))
+    (v .inv .5)
+
+pub +visit+walk-spec : {M : Type 1} → statement M
++visit+walk-spec = close μ-visit μ-walk (λ t. visit-lts.spec (visit-claims t)
+    (visit-at t)
+    visit.Post
+    (visit-add-base t)
+    (visit-mul-wide t)
+    (visit-shared-slice-read-wide t)
+    (visit-wide-requires t)
+    (visit-add-from t)
+    (visit-add-wide t)
+    (visit-mul-wide-2 t)
+    (visit-shared-slice-read-wide-2 t)
+    (visit-wide-requires-2 t)
+    (visit-add-to t)
+    (visit-add-walk t)
+    (visit-walk-requires t)
+    (visit-same-length t)
+    (visit-returns t)
+    (visit-says-yes-requires t)
+    (visit-add-t32 t)
+    (visit-returns-2 t)
+    (visit-add-t33 t)
+    (visit-returns-3 t))
+    λ t. walk-lts.spec (walk-claims t)
+    (walk-at t)
+    walk.Post
+    walk-Inv-loop
+    walk-μ-loop
+    (walk-loop-holds t)
+    (walk-same-length t)
+    (walk-returns t)
+    (walk-mul-place t)
+    (walk-shared-slice-read-place t)
+    (walk-wide-requires t)
+    (walk-next-hash-requires t)
+    (walk-round-id-requires t)
+    (walk-enum-known-drawn t)
+    (walk-mul-next t)
+    (walk-array-write-next t)
+    (walk-add-visit t)
+    (walk-visit-requires t)
+    (walk-enum-known-outcome t)
+    (walk-add-if2 t)
+    (walk-write-places-requires t)
+    (walk-same-length-2 t)
+    (walk-returns-2 t)
+    (walk-same-length-3 t)
+    (walk-returns-3 t)
+    (walk-enum-known-outcome-2 t)
+    (walk-enum-told t)
+    (walk-add-i t)
+    (walk-loop-less t)
+    (walk-loop-again t)
+    (walk-same-length-4 t)
+    (walk-returns-4 t)

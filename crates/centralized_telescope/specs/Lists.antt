@@ -1,0 +1,31 @@
+-- Words about lists that the definitions share.
+use mathlib.Core.Bool.{Bool, cond}
+use mathlib.Core.List.{List, [], _∷_, List·Memᴰ}
+use mathlib.Core.Option.{Option, none, some}
+use Prim.Native.Nat.{ℕ, _+_}
+use lib.Dec.{eqb}
+
+-- each stands in the relation to all after it
+unfoldable pub Pairwise : {A : Type 0} → (A → A → Type 0) → List A → Type 0
+Pairwise R [] = Unit {0}
+Pairwise {A} R (x ∷ xs) = ((y : A) → List·Memᴰ y xs → R x y) × Pairwise R xs
+
+-- each is as said
+unfoldable pub Each : {A : Type 0} → (A → Type 0) → List A → Type 0
+Each P [] = Unit {0}
+Each P (x ∷ xs) = P x × Each P xs
+
+-- the first for which the test says yes
+unfoldable pub firstOf : {A : Type 0} → (A → Bool) → List A → Option A
+firstOf test [] = none
+firstOf test (x ∷ xs) = cond (test x) (some x) (firstOf test xs)
+
+-- how many there are up to and including the first for which the test says yes, or in all if it never does
+unfoldable pub upToFirst : {A : Type 0} → (A → Bool) → List A → ℕ
+upToFirst test [] = 0
+upToFirst test (x ∷ xs) = cond (test x) 1 (1 + upToFirst test xs)
+
+-- "Each call meets its lines from the top.": the first number that isn't 0, or 0 where all are
+unfoldable pub firstNumber : List ℕ → ℕ
+firstNumber [] = 0
+firstNumber (k ∷ ks) = cond (eqb k 0) (firstNumber ks) k

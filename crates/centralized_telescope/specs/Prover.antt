@@ -1,0 +1,91 @@
+-- Document 01, Search and 'Lent and given back': the prover's answer, and each lent buffer afterwards.
+use mathlib.Core.Bool.{Bool, cond, _||_}
+use mathlib.Core.List.{List, [], _∷_, _++_}
+use mathlib.Core.Option.{Option, none, some}
+use Prim.Native.Nat.{ℕ, zero, suc, _+_, _*_}
+use lib.Dec.{ltb, leb, eqb}
+use lib.ListN.{length, drop}
+use Rattle.centralized_telescope.specs.declared.params.Params.{Params}
+use Rattle.centralized_telescope.specs.declared.proof.ProofSearch.{ProofSearch}
+use Rattle.centralized_telescope.specs.declared.proof.ProofSearch.the-variants as answer
+use Rattle.centralized_telescope.specs.Params.{checked}
+use Rattle.centralized_telescope.specs.Elements.{Element, elements, listCheck}
+use Rattle.centralized_telescope.specs.Lists.{firstNumber}
+use Rattle.centralized_telescope.specs.Bins.{binTable}
+use Rattle.centralized_telescope.specs.Chains.{Chain, tryOf}
+use Rattle.centralized_telescope.specs.Search.{binsOf, searched}
+
+-- the number, R, S and the step count; places and bin table afterwards
+pub record Proved : Type 0 where
+  pub number : ℕ
+  pub retry : ℕ
+  pub search : ℕ
+  pub count : ℕ
+  pub places : List ℕ
+  pub table : List ℕ
+
+-- "A refusal's result holds its number and zeros"; "1 to 10 leave the bin table too."
+abbrev pub refused : ℕ → List ℕ → List ℕ → Proved
+refused k places table = record { number = k; retry = 0; search = 0; count = 0; places = places; table = table }
+
+-- "The bin table then holds the last try made"; "With max_retries 0 it is untouched."
+unfoldable pub tableAfter : Params → List Element → ℕ → List ℕ → List ℕ
+tableAfter p es zero table = table
+tableAfter p es (suc R) table = binTable (p .«set_size») (binsOf (tryOf p es (suc R))) table
+
+-- "Success gives R, S and the step count in the result and writes the chain's places into the first proof_size numbers, no further."
+-- "If none found: NotFoundInBounds when that sum is at least dfs_bound, else NotFound": 11 and 12 carry the count and leave places
+unfoldable pub answered : Params → Option Chain → ℕ → ℕ → List ℕ → List ℕ → Proved
+answered p (some c) R count places table = record {
+  number = 0;
+  retry = R;
+  search = c .search;
+  count = count;
+  places = c .places ++ drop (length (c .places)) places;
+  table = table;
+}
+answered p none R count places table = record {
+  number = cond (leb (p .«dfs_bound») count) 11 12;
+  retry = 0;
+  search = 0;
+  count = count;
+  places = places;
+  table = table;
+}
+
+-- what a prover that refuses nothing answers
+unfoldable pub served : Params → List Element → List ℕ → List ℕ → Proved
+served p es places table =
+    answered p (searched p es .proof) (searched p es .made) (searched p es .count) places (tableAfter p es (searched p es .made) table)
+
+-- prover, 6: "either workspace too short"
+abbrev pub workspaceShort : Params → List ℕ → List ℕ → Bool
+workspaceShort p places table = ltb (length places) (p .«proof_size») || ltb (length table) (3 * p .«set_size» + 1)
+
+-- the first refusal in the table's order, or 0. Prover, 10: "fewer elements than set_size (NotEnoughElements)"
+unfoldable pub proverRefusal : Params → List ℕ → List ℕ → List ℕ → List ℕ → List ℕ → List ℕ → ℕ
+proverRefusal p bytes ends marks indexes places table =
+    firstNumber
+    (checked p .0
+    ∷ listCheck bytes ends marks indexes
+    ∷ cond (workspaceShort p places table) 6 0
+    ∷ cond (ltb (length ends) (p .«set_size»)) 10 0
+    ∷ [])
+
+unfoldable pub proved : Params → List ℕ → List ℕ → List ℕ → List ℕ → List ℕ → List ℕ → Proved
+proved p bytes ends marks indexes places table =
+    let refusal : ℕ = proverRefusal p bytes ends marks indexes places table in
+    cond (eqb refusal 0) (served p (elements bytes ends marks indexes) places table) (refused refusal places table)
+
+-- 01's number and values for each answer of the prover, with the lent buffers as they are left
+abbrev pub provedBy : ProofSearch → List ℕ → List ℕ → Proved
+provedBy (answer.Found R S count) places table = record { number = 0; retry = R .0; search = S .0; count = count; places = places; table = table }
+provedBy (answer.NotFoundInBounds count) places table = record { number = 11; retry = 0; search = 0; count = count; places = places; table = table }
+provedBy (answer.NotFound count) places table = record { number = 12; retry = 0; search = 0; count = count; places = places; table = table }
+provedBy answer.SetSizeRefused places table = refused 1 places table
+provedBy answer.LimitRefused places table = refused 2 places table
+provedBy answer.ProbabilityRefused places table = refused 3 places table
+provedBy answer.Malformed places table = refused 4 places table
+provedBy answer.TooLarge places table = refused 5 places table
+provedBy answer.WorkspaceShort places table = refused 6 places table
+provedBy answer.NotEnoughElements places table = refused 10 places table

@@ -1,0 +1,68 @@
+-- Document 01, Verifier.
+use mathlib.Core.Bool.{Bool, false, cond, _||_}
+use mathlib.Core.List.{List, [], _∷_}
+use mathlib.Core.Option.{Option, none, some}
+use Prim.Native.Nat.{ℕ}
+use lib.Dec.{leb, eqb}
+use lib.Ieee.{Float}
+use lib.ListN.{length}
+use Rattle.centralized_telescope.specs.declared.params.Params.{Params}
+use Rattle.centralized_telescope.specs.Params.{checked}
+use Rattle.centralized_telescope.specs.Elements.{Element, elements, listCheck}
+use Rattle.centralized_telescope.specs.Lists.{firstNumber}
+use Rattle.centralized_telescope.specs.Rounds.{startHash, nextHash, roundId, binOf, saysYes}
+use Rattle.centralized_telescope.specs.declared.proof.Verdict.{Verdict}
+use Rattle.centralized_telescope.specs.declared.proof.Verdict.the-variants as answer
+
+-- ---- the last hash of the chain that some elements make, "all of them in their order", if it exists
+
+unfoldable pub ifSome : {A : Type 0} → Option ℕ → (ℕ → Option A) → Option A
+ifSome none f = none
+ifSome (some i) f = f i
+
+-- "each element's bin equals the id of the round before it"
+abbrev pub isBin : Option ℕ → ℕ → Bool
+isBin none i = false
+isBin (some bin) i = eqb bin i
+
+-- from a round with the hash h and the id i on
+unfoldable pub follow : Params → ℕ → List ℕ → ℕ → List Element → Option (List ℕ)
+follow p R h i [] = some h
+follow p R h i (e ∷ es) =
+    cond (isBin (binOf (p .«set_size») R e) i) (ifSome (roundId (p .«set_size») (nextHash h e)) (λ (j : ℕ). follow p R (nextHash h e) j es)) none
+
+unfoldable pub lastHash : Params → ℕ → ℕ → List Element → Option (List ℕ)
+lastHash p R S es = ifSome (roundId (p .«set_size») (startHash R S)) (λ (i : ℕ). follow p R (startHash R S) i es)
+
+-- whether that chain, being of proof_size elements, passes
+abbrev pub yesOn : Float → Option (List ℕ) → Bool
+yesOn q none = false
+yesOn q (some h) = saysYes q h
+
+-- ---- the verdict
+
+-- verifier, 21: "S ≥ search_width or R ≥ max_retries (InvalidParameters)"
+abbrev pub countersOut : Params → ℕ → ℕ → Bool
+countersOut p R S = leb (p .«search_width») S || leb (p .«max_retries») R
+
+-- "Length first, then the counters, then existence and passing of the chain that the proof's own elements make": 20, 21, 22, or 0
+unfoldable pub judged : Params → ℕ → ℕ → List Element → ℕ
+judged p R S es =
+    cond (eqb (length es) (p .«proof_size»)) (cond (countersOut p R S) 21 (cond (yesOn (p .q) (lastHash p R S es)) 0 22)) 20
+
+-- the number of the first line that the call meets, or 0
+unfoldable pub verdict : Params → ℕ → ℕ → List ℕ → List ℕ → List ℕ → List ℕ → ℕ
+verdict p R S bytes ends marks indexes =
+    firstNumber (checked p .0 ∷ listCheck bytes ends marks indexes ∷ judged p R S (elements bytes ends marks indexes) ∷ [])
+
+-- 01's number for each answer of the verifier
+abbrev pub verdictNumber : Verdict → ℕ
+verdictNumber answer.Accepted = 0
+verdictNumber answer.SetSizeRefused = 1
+verdictNumber answer.LimitRefused = 2
+verdictNumber answer.ProbabilityRefused = 3
+verdictNumber answer.Malformed = 4
+verdictNumber answer.TooLarge = 5
+verdictNumber answer.IncorrectNumberElements = 20
+verdictNumber answer.InvalidParameters = 21
+verdictNumber answer.InvalidProof = 22

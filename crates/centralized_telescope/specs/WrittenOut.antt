@@ -1,0 +1,102 @@
+-- Elements written out as a list in the form in which lists are lent (document 01, Verifier: "A proof is R, S and its elements as a list
+-- in the form above; the prover's places are written out so"), and what `write_proof` answers and leaves in each lent buffer.
+use mathlib.Core.Bool.{Bool, false, cond, _||_}
+use mathlib.Core.List.{List, [], _∷_, _++_, map}
+use Prim.Native.Nat.{ℕ, _+_}
+use lib.Dec.{ltb, leb, eqb}
+use lib.ListN.{length, drop}
+use Rattle.centralized_telescope.specs.Elements.{Element, elements, elementAt, dataAt, markOf, numberOf, listCheck}
+use Rattle.centralized_telescope.specs.Lists.{firstNumber}
+use Rattle.centralized_telescope.specs.declared.proof_list.Written.{Written}
+use Rattle.centralized_telescope.specs.declared.proof_list.Written.the-variants as w
+
+-- ---- elements as a list: data bytes, ends, marks and indexes
+
+unfoldable pub joined : List Element → List ℕ
+joined [] = []
+joined (e ∷ es) = e .bytes ++ joined es
+
+-- of elements whose data starts at `from`
+unfoldable pub endsFrom : ℕ → List Element → List ℕ
+endsFrom from [] = []
+endsFrom from (e ∷ es) = (from + length (e .bytes)) ∷ endsFrom (from + length (e .bytes)) es
+
+abbrev pub marksOf : List Element → List ℕ
+marksOf es = map (λ (e : Element). markOf (e .index)) es
+
+abbrev pub indexesOf : List Element → List ℕ
+indexesOf es = map (λ (e : Element). numberOf (e .index)) es
+
+-- ---- the elements at some places of a lent list
+
+abbrev pub chosen : List ℕ → List ℕ → List ℕ → List ℕ → List ℕ → List Element
+chosen places bytes ends marks indexes = map (elementAt (elements bytes ends marks indexes)) places
+
+-- a place is past a list of `len` elements
+unfoldable pub placeOut : ℕ → List ℕ → Bool
+placeOut len [] = false
+placeOut len (place ∷ places) = leb len place || placeOut len places
+
+-- their data bytes, as the code reads them: `WrittenOutLaws` ties it to `joined`
+unfoldable pub dataOf : List ℕ → List ℕ → List ℕ → List ℕ
+dataOf bytes ends [] = []
+dataOf bytes ends (place ∷ places) = dataAt bytes ends place ++ dataOf bytes ends places
+
+-- ---- the answer: its number and how many data bytes were written; and each lent buffer afterwards
+
+pub record WrittenOut : Type 0 where
+  pub number : ℕ
+  pub len : ℕ
+  pub bytes : List ℕ
+  pub ends : List ℕ
+  pub marks : List ℕ
+  pub indexes : List ℕ
+
+-- a lent buffer with numbers written over its first ones, the rest untouched
+unfoldable pub over : List ℕ → List ℕ → List ℕ
+over xs lent = xs ++ drop (length xs) lent
+
+abbrev pub wrote : ℕ → List ℕ → List ℕ → List ℕ → List ℕ → WrittenOut
+wrote len bytes ends marks indexes =
+    record { number = 0; len = len; bytes = bytes; ends = ends; marks = marks; indexes = indexes }
+
+-- "A refusal's result holds its number and zeros", and it alters nothing lent
+abbrev pub unwritten : ℕ → List ℕ → List ℕ → List ℕ → List ℕ → WrittenOut
+unwritten k bytes ends marks indexes =
+    record { number = k; len = 0; bytes = bytes; ends = ends; marks = marks; indexes = indexes }
+
+-- elements written into lent buffers
+unfoldable pub written : List Element → List ℕ → List ℕ → List ℕ → List ℕ → WrittenOut
+written es bytes ends marks indexes =
+    wrote (length (joined es)) (over (joined es) bytes) (over (endsFrom 0 es) ends) (over (marksOf es) marks) (over (indexesOf es) indexes)
+
+-- buffers of so many numbers are too short: three of them for `count` numbers each, the data's for `size` bytes
+unfoldable pub buffersShort : ℕ → ℕ → ℕ → ℕ → ℕ → ℕ → Bool
+buffersShort count size bytes ends marks indexes = ltb ends count || (ltb marks count || (ltb indexes count || ltb bytes size))
+
+module _ (places bytes ends marks indexes : List ℕ) (outBytes outEnds outMarks outIndexes : List ℕ) where
+  -- the first refusal, or 0: those of the list; 5 for a proof that would be refused as a list of over 65,536 elements; 4 for a place past
+  -- the list; 42 for a lent buffer that is too short
+  unfoldable pub writeRefusal : ℕ
+  writeRefusal =
+      firstNumber
+      (listCheck bytes ends marks indexes
+      ∷ cond (ltb 65536 (length places)) 5 0
+      ∷ cond (placeOut (length ends) places) 4 0
+      ∷ cond
+      (buffersShort (length places) (length (joined (chosen places bytes ends marks indexes))) (length outBytes) (length outEnds) (length outMarks) (length outIndexes))
+      42
+      0
+      ∷ [])
+
+  unfoldable pub proofWritten : WrittenOut
+  proofWritten =
+      cond (eqb writeRefusal 0) (written (chosen places bytes ends marks indexes) outBytes outEnds outMarks outIndexes)
+      (unwritten writeRefusal outBytes outEnds outMarks outIndexes)
+
+-- the number for each answer, and the buffers with it
+abbrev pub outcome : Written → List ℕ → List ℕ → List ℕ → List ℕ → WrittenOut
+outcome (w.List len) bytes ends marks indexes = wrote len bytes ends marks indexes
+outcome w.Malformed bytes ends marks indexes = unwritten 4 bytes ends marks indexes
+outcome w.TooLarge bytes ends marks indexes = unwritten 5 bytes ends marks indexes
+outcome w.TooShort bytes ends marks indexes = unwritten 42 bytes ends marks indexes

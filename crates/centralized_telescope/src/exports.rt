@@ -1,0 +1,250 @@
+// The verifier as C and Rust call it: settings one by one, ends and indexes as lent bytes, and the answer is a number.
+ghost use mathlib.Core.Path.{_≡_};
+ghost use mathlib.Core.Bool.{_||_};
+ghost use Prim.Native.Nat.{_+_, _/_, _^_, _<_, _≤_};
+ghost use lib.ListN.{length, drop, getD};
+ghost use Rattle.sampling.specs.BigEndian.{bigEndian};
+ghost use Rattle.sampling.specs.Sample.{valueOf, thresholdOrRefusal};
+ghost use Rattle.centralized_telescope.specs.Elements.{elements, endWrong, dataLong, listCheck, listNumber};
+ghost use Rattle.centralized_telescope.specs.Verifier.{judged, verdictNumber};
+ghost use Rattle.centralized_telescope.specs.Exports.{settingsOf, numbersOf, exportedVerdict};
+use crate::params::Checked;
+use crate::params::Params;
+use crate::params::check_params;
+use crate::proof::Verdict;
+use crate::proof::judge;
+use crate::round::RetryCounter;
+use crate::round::SearchCounter;
+use crate::telescope::list_verdict;
+use crate::telescope::settings_verdict;
+use crate::types::ListCheck;
+use crate::types::list_answer;
+use crate::types::some_data_long;
+use crate::types::some_end_wrong;
+use crate::types::some_mark_over;
+use sampling::Words;
+
+// What the ends in bytes are found to be.
+pub struct EndsFound {
+    // one falls or passes the data
+    pub wrong: bool,
+    // an element has over 4,096 data bytes
+    pub long: bool,
+}
+
+// The number that k bytes make, the most significant first.
+fn number(bytes: &[u8], at: usize, k: usize) -> u64
+    requires { ⌜ (at + k ≤ length (now bytes)) × (k ≤ 8) ⌝ }
+    ensures { λ r. ⌜ (r ≡ bigEndian k (drop at (now (bytes .entry)))) × (r < 256 ^ k) ⌝ }
+{
+    let mut v: u64 = 0;
+    let mut i = 0;
+    while i < k {
+        v = v * 256 + bytes[at + i] as u64;
+        i += 1;
+    }
+    v
+}
+
+// The end at a place.
+fn end_at(ends: &[u8], place: usize) -> u32
+    requires { ⌜ place < length (now ends) / 4 ⌝ }
+    ensures { λ r. ⌜ r ≡ getD (numbersOf 4 (now (ends .entry))) place 0 ⌝ }
+{
+    number(ends, 4 * place, 4) as u32
+}
+
+// The index at a place.
+fn index_at(indexes: &[u8], place: usize) -> u64
+    requires { ⌜ place < length (now indexes) / 8 ⌝ }
+    ensures { λ r. ⌜ r ≡ getD (numbersOf 8 (now (indexes .entry))) place 0 ⌝ }
+{
+    number(indexes, 8 * place, 8)
+}
+
+// Both tests, so that neither keeps the other from being made.
+fn either(a: bool, b: bool) -> bool
+    ensures { λ r. ⌜ r ≡ (a || b) ⌝ }
+{
+    if a {
+        return true;
+    }
+    b
+}
+
+// The faults of the ends, looked for at one end at a time: there may be more of them than an array here could hold.
+fn find_in_ends(ends: &[u8], limit: usize) -> EndsFound
+    ensures { λ r. ⌜ (r .wrong ≡ endWrong 0 limit (numbersOf 4 (now (ends .entry)))) × (r .long ≡ dataLong 0 (numbersOf 4 (now (ends .entry)))) ⌝ }
+{
+    let mut from: u32 = 0;
+    let mut wrong = false;
+    let mut long = false;
+    let mut i = 0;
+    while i < ends.len() / 4 {
+        let end = end_at(ends, i);
+        let one = [end];
+        wrong = either(wrong, some_end_wrong(&one, from, limit));
+        long = either(long, some_data_long(&one, from));
+        from = end;
+        i += 1;
+    }
+    EndsFound { wrong, long }
+}
+
+// Whether a list with ends and indexes in bytes, of whole counts, is accepted.
+fn check_bytes(data: &[u8], ends: &[u8], marks: &[u8], indexes: &[u8]) -> ListCheck
+    ensures { λ r. ⌜ listNumber r ≡ listCheck (now («data» .entry)) (numbersOf 4 (now (ends .entry))) (now (marks .entry)) (numbersOf 8 (now (indexes .entry))) ⌝ }
+{
+    let mark_over = some_mark_over(marks);
+    let found = find_in_ends(ends, data.len());
+    list_answer(
+        ends.len() / 4,
+        marks.len(),
+        indexes.len() / 8,
+        mark_over,
+        found.wrong,
+        found.long,
+    )
+}
+
+// The ends as numbers.
+fn read_ends(ends: &[u8], out: &mut [u32])
+    requires { ⌜ length (now out) ≡ length (now ends) / 4 ⌝ }
+    ensures { λ _. ⌜ now (out .exit) ≡ numbersOf 4 (now (ends .entry)) ⌝ }
+{
+    let mut i = 0;
+    while i < out.len() {
+        out[i] = end_at(ends, i);
+        i += 1;
+    }
+}
+
+// The indexes as numbers.
+fn read_indexes(indexes: &[u8], out: &mut [u64])
+    requires { ⌜ length (now out) ≡ length (now indexes) / 8 ⌝ }
+    ensures { λ _. ⌜ now (out .exit) ≡ numbersOf 8 (now (indexes .entry)) ⌝ }
+{
+    let mut i = 0;
+    while i < out.len() {
+        out[i] = index_at(indexes, i);
+        i += 1;
+    }
+}
+
+// The judgement on an accepted list of at most 1,024 elements.
+fn judge_bytes(
+    p: Params,
+    x: Words,
+    retry: RetryCounter,
+    search: SearchCounter,
+    data: &[u8],
+    ends: &[u8],
+    marks: &[u8],
+    indexes: &[u8],
+) -> Verdict
+    requires { ⌜ (thresholdOrRefusal (p .q) ≡ (0, valueOf x)) × (listCheck (now «data») (numbersOf 4 (now ends)) (now marks) (numbersOf 8 (now indexes)) ≡ 0) × (length (now marks) ≤ 1024) ⌝ }
+    ensures { λ r. ⌜ verdictNumber r ≡ judged p (retry .0) (search .0) (elements (now («data» .entry)) (numbersOf 4 (now (ends .entry))) (now (marks .entry)) (numbersOf 8 (now (indexes .entry)))) ⌝ }
+{
+    let n = marks.len();
+    let mut end_numbers = [0u32; 1024];
+    read_ends(ends, &mut end_numbers[..n]);
+    let mut index_numbers = [0u64; 1024];
+    read_indexes(indexes, &mut index_numbers[..n]);
+    judge(
+        p,
+        x,
+        retry,
+        search,
+        data,
+        &end_numbers[..n],
+        marks,
+        &index_numbers[..n],
+    )
+}
+
+// The verdict where ends and indexes are bytes. No proof_size is over 1,024, so a longer list is met by 20 before it is read.
+fn verify_bytes(
+    p: Params,
+    retry: RetryCounter,
+    search: SearchCounter,
+    data: &[u8],
+    ends: &[u8],
+    marks: &[u8],
+    indexes: &[u8],
+) -> Verdict
+    ensures { λ r. ⌜ verdictNumber r ≡ exportedVerdict p (retry .0) (search .0) (now («data» .entry)) (now (ends .entry)) (now (marks .entry)) (now (indexes .entry)) ⌝ }
+{
+    let settings = check_params(p);
+    let Checked::Lawful(x) = settings else {
+        return settings_verdict(settings);
+    };
+    if ends.len() % 4 != 0 {
+        return Verdict::Malformed;
+    }
+    if indexes.len() % 8 != 0 {
+        return Verdict::Malformed;
+    }
+    let list = check_bytes(data, ends, marks, indexes);
+    let ListCheck::Accepted = list else {
+        return list_verdict(list);
+    };
+    if 1024 < marks.len() {
+        return Verdict::IncorrectNumberElements;
+    }
+    judge_bytes(p, x, retry, search, data, ends, marks, indexes)
+}
+
+// The number of a verdict.
+fn verdict_number(v: Verdict) -> u32
+    ensures { λ r. ⌜ r ≡ verdictNumber v ⌝ }
+{
+    match v {
+        Verdict::Accepted => 0,
+        Verdict::SetSizeRefused => 1,
+        Verdict::LimitRefused => 2,
+        Verdict::ProbabilityRefused => 3,
+        Verdict::Malformed => 4,
+        Verdict::TooLarge => 5,
+        Verdict::IncorrectNumberElements => 20,
+        Verdict::InvalidParameters => 21,
+        Verdict::InvalidProof => 22,
+    }
+}
+
+// 0: the proof is accepted; else the number of the first refusal that it meets. Ends take 4 bytes each and indexes 8, the highest
+// byte first.
+#[no_mangle]
+pub extern "C" fn alba_verify(
+    set_size: u64,
+    proof_size: u64,
+    max_retries: u64,
+    search_width: u64,
+    dfs_bound: u64,
+    q: f64,
+    retry_counter: u64,
+    search_counter: u64,
+    data: &[u8],
+    ends: &[u8],
+    marks: &[u8],
+    indexes: &[u8],
+) -> u32
+    ensures { λ r. ⌜ r ≡ exportedVerdict (settingsOf «set_size» «proof_size» «max_retries» «search_width» «dfs_bound» q) «retry_counter» «search_counter» (now («data» .entry)) (now (ends .entry)) (now (marks .entry)) (now (indexes .entry)) ⌝ }
+{
+    let p = Params {
+        set_size,
+        proof_size,
+        max_retries,
+        search_width,
+        dfs_bound,
+        q,
+    };
+    verdict_number(verify_bytes(
+        p,
+        RetryCounter(retry_counter),
+        SearchCounter(search_counter),
+        data,
+        ends,
+        marks,
+        indexes,
+    ))
+}

@@ -1,0 +1,389 @@
+// The prover's search: a try's chains are walked in their order, and tries are made until one finds. Then the verifier's judgement.
+ghost use mathlib.Core.Path.{_≡_};
+ghost use mathlib.Core.List.{_++_};
+ghost use Prim.Native.Nat.{_+_, _*_, _<_, _≤_};
+ghost use lib.ListN.{length, take, drop};
+ghost use lib.Seq.{slice};
+ghost use Rattle.sampling.specs.Sample.{valueOf, thresholdOrRefusal};
+ghost use Rattle.centralized_telescope.specs.Params.{checked};
+ghost use Rattle.centralized_telescope.specs.Elements.{elements, listCheck};
+ghost use Rattle.centralized_telescope.specs.Prover.{provedBy, served};
+ghost use Rattle.centralized_telescope.specs.Visit.{tryOn, visited, walked, tried, outcomeOf, attemptOf, written, writtenFrom, Ready, Span};
+ghost use Rattle.centralized_telescope.specs.Verifier.{lastHash, yesOn, judged, verdictNumber};
+use crate::bins::fill_table;
+use crate::params::Params;
+use crate::round::Id;
+use crate::round::RetryCounter;
+use crate::round::SearchCounter;
+use crate::round::bin_of;
+use crate::round::next_hash;
+use crate::round::round_id;
+use crate::round::says_yes;
+use crate::round::start_hash;
+use crate::types::wide;
+use sampling::Words;
+
+// ---- The search
+
+// How a walk ends, with the count of the steps so far.
+pub enum Outcome {
+    Found(u64),
+    Missing(u64),
+}
+
+// How a try ends: with the search counter of what it found, or without; and its count.
+pub enum Attempt {
+    Found(SearchCounter, u64),
+    Missing(u64),
+}
+
+// Writes the first n places of the path.
+fn write_places(path: [u32; 1024], n: usize, places: &mut [u32])
+    requires { ⌜ (n ≤ 1024) × (n ≤ length (now places)) ⌝ }
+    ensures { λ _. ⌜ now (places .exit) ≡ take n path ++ drop n (now (places .entry)) ⌝ }
+{
+    let mut i = 0;
+    while i < n {
+        places[i] = path[i];
+        i += 1;
+    }
+}
+
+// A chain that exists, by its last round: at full length it passes or doesn't, before that its bin is walked.
+fn visit(
+    p: Params,
+    x: Words,
+    retry: RetryCounter,
+    search: SearchCounter,
+    data: &[u8],
+    ends: &[u32],
+    marks: &[u8],
+    indexes: &[u64],
+    table: &[u32],
+    h: [u8; 32],
+    id: u64,
+    path: [u32; 1024],
+    depth: usize,
+    steps: u64,
+    places: &mut [u32],
+) -> Outcome
+    requires { ⌜ Ready p (valueOf x) (now «data») (now ends) (now marks) (now indexes) (retry .0) (now table) (length (now places)) ⌝ }
+    requires { ⌜ (id < p .«set_size») × (depth ≤ p .«proof_size») × (steps < p .«dfs_bound») ⌝ }
+    ensures { λ r. ⌜ r ≡ outcomeOf (visited (tryOn p (now («data» .entry)) (now (ends .entry)) (now (marks .entry)) (now (indexes .entry)) (retry .0)) (search .0) h id (take depth path) depth steps) ⌝ }
+    ensures { λ r. ⌜ now (places .exit) ≡ writtenFrom p depth (visited (tryOn p (now («data» .entry)) (now (ends .entry)) (now (marks .entry)) (now (indexes .entry)) (retry .0)) (search .0) h id (take depth path) depth steps) (now (places .entry)) ⌝ }
+{
+    if depth < p.proof_size as usize {
+        let i = id as usize;
+        let base = p.set_size as usize + 1;
+        let from = base + wide(table[i]);
+        let to = base + wide(table[i + 1]);
+        return walk(
+            p,
+            x,
+            retry,
+            search,
+            data,
+            ends,
+            marks,
+            indexes,
+            table,
+            h,
+            path,
+            depth,
+            from,
+            to,
+            steps + 1,
+            places,
+        );
+    }
+    if says_yes(h, x) {
+        return Outcome::Found(steps + 1);
+    }
+    Outcome::Missing(steps + 1)
+}
+
+// The extensions of a chain by the places from one index of the table up to another: each that exists is visited. The places found are
+// written here, where the path is whole, and not by the visit: that keeps one path to a level of the stack.
+fn walk(
+    p: Params,
+    x: Words,
+    retry: RetryCounter,
+    search: SearchCounter,
+    data: &[u8],
+    ends: &[u32],
+    marks: &[u8],
+    indexes: &[u64],
+    table: &[u32],
+    h: [u8; 32],
+    path: [u32; 1024],
+    depth: usize,
+    from: usize,
+    to: usize,
+    steps: u64,
+    places: &mut [u32],
+) -> Outcome
+    requires { ⌜ Ready p (valueOf x) (now «data») (now ends) (now marks) (now indexes) (retry .0) (now table) (length (now places)) ⌝ }
+    requires { ⌜ Span p (now table) from to ⌝ }
+    requires { ⌜ (depth < p .«proof_size») × (steps ≤ p .«dfs_bound») ⌝ }
+    ensures { λ r. ⌜ r ≡ outcomeOf (walked (tryOn p (now («data» .entry)) (now (ends .entry)) (now (marks .entry)) (now (indexes .entry)) (retry .0)) (search .0) h (take depth path) depth (slice from to (now (table .entry))) steps) ⌝ }
+    ensures { λ r. ⌜ now (places .exit) ≡ written (walked (tryOn p (now («data» .entry)) (now (ends .entry)) (now (marks .entry)) (now (indexes .entry)) (retry .0)) (search .0) h (take depth path) depth (slice from to (now (table .entry))) steps) (now (places .entry)) ⌝ }
+{
+    let size = p.proof_size as usize;
+    let mut count = steps;
+    let mut i = from;
+    let mut next = path;
+    while i < to {
+        if p.dfs_bound <= count {
+            return Outcome::Missing(count);
+        }
+        let place = table[i];
+        let g = next_hash(h, data, ends, marks, indexes, wide(place));
+        let drawn = round_id(g, p.set_size);
+        match drawn {
+            Id::At(id) => {
+                next[depth] = place;
+                let outcome = visit(
+                    p,
+                    x,
+                    retry,
+                    search,
+                    data,
+                    ends,
+                    marks,
+                    indexes,
+                    table,
+                    g,
+                    id,
+                    next,
+                    depth + 1,
+                    count,
+                    places,
+                );
+                match outcome {
+                    Outcome::Found(c) => {
+                        if depth + 1 == size {
+                            write_places(next, size, places);
+                        }
+                        return Outcome::Found(c);
+                    }
+                    Outcome::Missing(c) => {
+                        count = c;
+                    }
+                }
+            }
+            Id::Nowhere => {}
+        }
+        i += 1;
+    }
+    Outcome::Missing(count)
+}
+
+// One try: its chains, search counter by search counter, over the bin table of its retry counter.
+fn search_try(
+    p: Params,
+    x: Words,
+    retry: RetryCounter,
+    data: &[u8],
+    ends: &[u32],
+    marks: &[u8],
+    indexes: &[u64],
+    table: &[u32],
+    places: &mut [u32],
+) -> Attempt
+    requires { ⌜ Ready p (valueOf x) (now «data») (now ends) (now marks) (now indexes) (retry .0) (now table) (length (now places)) ⌝ }
+    ensures { λ r. ⌜ r ≡ attemptOf (tried (tryOn p (now («data» .entry)) (now (ends .entry)) (now (marks .entry)) (now (indexes .entry)) (retry .0)) (p .«search_width») 0 0) ⌝ }
+    ensures { λ r. ⌜ now (places .exit) ≡ written (tried (tryOn p (now («data» .entry)) (now (ends .entry)) (now (marks .entry)) (now (indexes .entry)) (retry .0)) (p .«search_width») 0 0) (now (places .entry)) ⌝ }
+{
+    let mut count: u64 = 0;
+    let mut s: u64 = 0;
+    while s < p.search_width {
+        if p.dfs_bound <= count {
+            return Attempt::Missing(count);
+        }
+        let search = SearchCounter(s);
+        let h = start_hash(retry, search);
+        let drawn = round_id(h, p.set_size);
+        match drawn {
+            Id::At(id) => {
+                let outcome = visit(
+                    p,
+                    x,
+                    retry,
+                    search,
+                    data,
+                    ends,
+                    marks,
+                    indexes,
+                    table,
+                    h,
+                    id,
+                    [0u32; 1024],
+                    0,
+                    count,
+                    places,
+                );
+                match outcome {
+                    Outcome::Found(c) => {
+                        return Attempt::Found(search, c);
+                    }
+                    Outcome::Missing(c) => {
+                        count = c;
+                    }
+                }
+            }
+            Id::Nowhere => {}
+        }
+        s += 1;
+    }
+    Attempt::Missing(count)
+}
+
+// What the prover answers: a proof's counters with the step count, its places being written; or one of the ends without a proof, with the
+// step count; or a refusal.
+pub enum ProofSearch {
+    Found(RetryCounter, SearchCounter, u64),
+    NotFoundInBounds(u64),
+    NotFound(u64),
+    SetSizeRefused,
+    LimitRefused,
+    ProbabilityRefused,
+    Malformed,
+    TooLarge,
+    WorkspaceShort,
+    NotEnoughElements,
+}
+
+// The tries, R = 1, 2, .. max_retries, up to the first that finds.
+pub fn make_tries(
+    p: Params,
+    x: Words,
+    data: &[u8],
+    ends: &[u32],
+    marks: &[u8],
+    indexes: &[u64],
+    places: &mut [u32],
+    table: &mut [u32],
+) -> ProofSearch
+    requires { ⌜ (checked p ≡ (0, valueOf x)) × (listCheck (now «data») (now ends) (now marks) (now indexes) ≡ 0) × (p .«proof_size» ≤ length (now places)) × (3 * p .«set_size» + 1 ≤ length (now table)) ⌝ }
+    ensures { λ r. ⌜ provedBy r (now (places .exit)) (now (table .exit)) ≡ served p (elements (now («data» .entry)) (now (ends .entry)) (now (marks .entry)) (now (indexes .entry))) (now (places .entry)) (now (table .entry)) ⌝ }
+{
+    let mut steps: u64 = 0;
+    let mut r: u64 = 0;
+    while r < p.max_retries {
+        r += 1;
+        let retry = RetryCounter(r);
+        fill_table(
+            retry,
+            data,
+            ends,
+            marks,
+            indexes,
+            p.set_size as usize,
+            table,
+        );
+        let one = search_try(p, x, retry, data, ends, marks, indexes, table, places);
+        match one {
+            Attempt::Found(search, c) => {
+                return ProofSearch::Found(retry, search, steps + c);
+            }
+            Attempt::Missing(c) => {
+                steps += c;
+            }
+        }
+    }
+    if p.dfs_bound <= steps {
+        return ProofSearch::NotFoundInBounds(steps);
+    }
+    ProofSearch::NotFound(steps)
+}
+
+// ---- The verifier
+
+// What the verifier answers.
+pub enum Verdict {
+    Accepted,
+    // the settings
+    SetSizeRefused,
+    LimitRefused,
+    ProbabilityRefused,
+    // the list of the proof's elements
+    Malformed,
+    TooLarge,
+    // the list's length isn't proof_size
+    IncorrectNumberElements,
+    // a counter isn't below its limit
+    InvalidParameters,
+    // the chain doesn't exist or doesn't pass
+    InvalidProof,
+}
+
+// Whether the chain of an accepted list's elements, all of them in their order, exists and its last hash says yes.
+fn chain_passes(
+    p: Params,
+    x: Words,
+    retry: RetryCounter,
+    search: SearchCounter,
+    data: &[u8],
+    ends: &[u32],
+    marks: &[u8],
+    indexes: &[u64],
+) -> bool
+    requires { ⌜ (thresholdOrRefusal (p .q) ≡ (0, valueOf x)) × (listCheck (now «data») (now ends) (now marks) (now indexes) ≡ 0) ⌝ }
+    ensures { λ r. ⌜ r ≡ yesOn (p .q) (lastHash p (retry .0) (search .0) (elements (now («data» .entry)) (now (ends .entry)) (now (marks .entry)) (now (indexes .entry)))) ⌝ }
+{
+    let mut h = start_hash(retry, search);
+    let start = round_id(h, p.set_size);
+    let Id::At(first) = start else {
+        return false;
+    };
+    let mut id = first;
+    let mut followed = 0;
+    while followed < ends.len() {
+        let drawn = bin_of(retry, data, ends, marks, indexes, followed, p.set_size);
+        let Id::At(bin) = drawn else {
+            return false;
+        };
+        if bin != id {
+            return false;
+        }
+        let next = next_hash(h, data, ends, marks, indexes, followed);
+        let round = round_id(next, p.set_size);
+        let Id::At(i) = round else {
+            return false;
+        };
+        h = next;
+        id = i;
+        followed += 1;
+    }
+    says_yes(h, x)
+}
+
+// The verdict on an accepted list under lawful settings, x being the threshold X of their q: the length first, then the counters,
+// then the chain.
+pub fn judge(
+    p: Params,
+    x: Words,
+    retry: RetryCounter,
+    search: SearchCounter,
+    data: &[u8],
+    ends: &[u32],
+    marks: &[u8],
+    indexes: &[u64],
+) -> Verdict
+    requires { ⌜ (thresholdOrRefusal (p .q) ≡ (0, valueOf x)) × (listCheck (now «data») (now ends) (now marks) (now indexes) ≡ 0) ⌝ }
+    ensures { λ r. ⌜ verdictNumber r ≡ judged p (retry .0) (search .0) (elements (now («data» .entry)) (now (ends .entry)) (now (marks .entry)) (now (indexes .entry))) ⌝ }
+{
+    if ends.len() as u64 != p.proof_size {
+        return Verdict::IncorrectNumberElements;
+    }
+    if p.search_width <= search.0 {
+        return Verdict::InvalidParameters;
+    }
+    if p.max_retries <= retry.0 {
+        return Verdict::InvalidParameters;
+    }
+    if chain_passes(p, x, retry, search, data, ends, marks, indexes) {
+        return Verdict::Accepted;
+    }
+    Verdict::InvalidProof
+}

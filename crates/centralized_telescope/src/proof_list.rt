@@ -1,0 +1,208 @@
+// A prover's proof as a list of its own, in the form in which lists are lent. The Rust clones the elements; here their places are
+// written out into lent buffers.
+ghost use mathlib.Core.Path.{_≡_};
+ghost use mathlib.Core.Bool.{false};
+ghost use mathlib.Core.List.{_++_};
+ghost use Prim.Native.Nat.{_+_, _<_, _≤_};
+ghost use lib.Dec.{ltb};
+ghost use lib.ListN.{length, take, drop};
+ghost use Rattle.centralized_telescope.specs.Elements.{endWrong, listCheck};
+ghost use Rattle.centralized_telescope.specs.WrittenOut.{placeOut, dataOf, joined, chosen, buffersShort, wrote, written, proofWritten, outcome};
+use crate::types::ListCheck;
+use crate::types::check_list;
+use crate::types::data_of;
+use crate::types::index_of;
+
+// What `write_proof` answers.
+pub enum Written {
+    // with the number of data bytes written
+    List(usize),
+    // the lent list is, or a place is past it
+    Malformed,
+    // the lent list is, or there are over 65,536 places
+    TooLarge,
+    // a lent buffer is
+    TooShort,
+}
+
+// Whether a place is past a list of `len` elements.
+fn some_place_out(places: &[u32], len: usize) -> bool
+    ensures { λ r. ⌜ r ≡ placeOut len (now (places .entry)) ⌝ }
+{
+    let mut i = 0;
+    while i < places.len() {
+        if len <= places[i] as usize {
+            return true;
+        }
+        i += 1;
+    }
+    false
+}
+
+// Whether the data bytes of the elements at the places are more than `room`.
+fn is_data_over(places: &[u32], data: &[u8], ends: &[u32], room: usize) -> bool
+    requires { ⌜ (endWrong 0 (length (now «data»)) (now ends) ≡ false) × (placeOut (length (now ends)) (now places) ≡ false) ⌝ }
+    ensures { λ r. ⌜ r ≡ ltb room (length (dataOf (now («data» .entry)) (now (ends .entry)) (now (places .entry)))) ⌝ }
+{
+    let mut used: usize = 0;
+    let mut i = 0;
+    while i < places.len() {
+        let own = data_of(data, ends, places[i] as usize);
+        if room - used < own.len() {
+            return true;
+        }
+        used += own.len();
+        i += 1;
+    }
+    false
+}
+
+// Whether one of four buffers, of so many numbers, is too short for the elements at the places.
+fn some_buffer_short(
+    places: &[u32],
+    data: &[u8],
+    ends: &[u32],
+    data_room: usize,
+    ends_room: usize,
+    marks_room: usize,
+    indexes_room: usize,
+) -> bool
+    requires { ⌜ (endWrong 0 (length (now «data»)) (now ends) ≡ false) × (placeOut (length (now ends)) (now places) ≡ false) ⌝ }
+    ensures { λ r. ⌜ r ≡ buffersShort (length (now (places .entry)))
+        (length (dataOf (now («data» .entry)) (now (ends .entry)) (now (places .entry)))) «data_room» «ends_room» «marks_room» «indexes_room» ⌝ }
+{
+    if ends_room < places.len() {
+        return true;
+    }
+    if marks_room < places.len() {
+        return true;
+    }
+    if indexes_room < places.len() {
+        return true;
+    }
+    is_data_over(places, data, ends, data_room)
+}
+
+// Copies an element's data bytes to the place `used` of a buffer that has room for them.
+fn copy_at(own: &[u8], used: usize, out: &mut [u8])
+    requires { ⌜ used + length (now own) ≤ length (now out) ⌝ }
+    ensures { λ _. ⌜ now (out .exit) ≡ take used (now (out .entry)) ++ (now (own .entry) ++ drop (used + length (now (own .entry))) (now (out .entry))) ⌝ }
+{
+    bytes::copy(own, &mut out[used..]);
+}
+
+// Writes the elements at the places into buffers that have room for them, and says how many data bytes that took.
+fn write_elements(
+    places: &[u32],
+    data: &[u8],
+    ends: &[u32],
+    marks: &[u8],
+    indexes: &[u64],
+    out_data: &mut [u8],
+    out_ends: &mut [u32],
+    out_marks: &mut [u8],
+    out_indexes: &mut [u64],
+) -> usize
+    requires { ⌜ (listCheck (now «data») (now ends) (now marks) (now indexes) ≡ 0) × (length (now places) ≤ 65536) × (placeOut (length (now ends)) (now places) ≡ false)
+        × (buffersShort (length (now places)) (length (joined (chosen (now places) (now «data») (now ends) (now marks) (now indexes))))
+        (length (now «out_data»)) (length (now «out_ends»)) (length (now «out_marks»)) (length (now «out_indexes»)) ≡ false) ⌝ }
+    ensures { λ r. ⌜ wrote r (now («out_data» .exit)) (now («out_ends» .exit)) (now («out_marks» .exit)) (now («out_indexes» .exit))
+        ≡ written (chosen (now (places .entry)) (now («data» .entry)) (now (ends .entry)) (now (marks .entry)) (now (indexes .entry)))
+        (now («out_data» .entry)) (now («out_ends» .entry)) (now («out_marks» .entry)) (now («out_indexes» .entry)) ⌝ }
+{
+    let mut used: usize = 0;
+    let mut i = 0;
+    while i < places.len() {
+        let place = places[i] as usize;
+        let own = data_of(data, ends, place);
+        let index = index_of(marks, indexes, place);
+        copy_at(own, used, out_data);
+        used += own.len();
+        out_ends[i] = used as u32;
+        out_marks[i] = index.mark;
+        out_indexes[i] = index.number;
+        i += 1;
+    }
+    used
+}
+
+// The proof of an accepted list.
+fn write_accepted(
+    places: &[u32],
+    data: &[u8],
+    ends: &[u32],
+    marks: &[u8],
+    indexes: &[u64],
+    out_data: &mut [u8],
+    out_ends: &mut [u32],
+    out_marks: &mut [u8],
+    out_indexes: &mut [u64],
+) -> Written
+    requires { ⌜ listCheck (now «data») (now ends) (now marks) (now indexes) ≡ 0 ⌝ }
+    ensures { λ r. ⌜ outcome r (now («out_data» .exit)) (now («out_ends» .exit)) (now («out_marks» .exit)) (now («out_indexes» .exit))
+        ≡ proofWritten (now (places .entry)) (now («data» .entry)) (now (ends .entry)) (now (marks .entry)) (now (indexes .entry))
+        (now («out_data» .entry)) (now («out_ends» .entry)) (now («out_marks» .entry)) (now («out_indexes» .entry)) ⌝ }
+{
+    if 65536 < places.len() {
+        return Written::TooLarge;
+    }
+    if some_place_out(places, ends.len()) {
+        return Written::Malformed;
+    }
+    if some_buffer_short(
+        places,
+        data,
+        ends,
+        out_data.len(),
+        out_ends.len(),
+        out_marks.len(),
+        out_indexes.len(),
+    ) {
+        return Written::TooShort;
+    }
+    Written::List(write_elements(
+        places,
+        data,
+        ends,
+        marks,
+        indexes,
+        out_data,
+        out_ends,
+        out_marks,
+        out_indexes,
+    ))
+}
+
+// The elements at the places, written out as a list into the first numbers of the four lent buffers. What is written is accepted as a
+// list, and its elements are those at the places. A refusal leaves the buffers as they were.
+pub fn write_proof(
+    places: &[u32],
+    data: &[u8],
+    ends: &[u32],
+    marks: &[u8],
+    indexes: &[u64],
+    out_data: &mut [u8],
+    out_ends: &mut [u32],
+    out_marks: &mut [u8],
+    out_indexes: &mut [u64],
+) -> Written
+    ensures { λ r. ⌜ outcome r (now («out_data» .exit)) (now («out_ends» .exit)) (now («out_marks» .exit)) (now («out_indexes» .exit))
+        ≡ proofWritten (now (places .entry)) (now («data» .entry)) (now (ends .entry)) (now (marks .entry)) (now (indexes .entry))
+        (now («out_data» .entry)) (now («out_ends» .entry)) (now («out_marks» .entry)) (now («out_indexes» .entry)) ⌝ }
+{
+    match check_list(data, ends, marks, indexes) {
+        ListCheck::Malformed => Written::Malformed,
+        ListCheck::TooLarge => Written::TooLarge,
+        ListCheck::Accepted => write_accepted(
+            places,
+            data,
+            ends,
+            marks,
+            indexes,
+            out_data,
+            out_ends,
+            out_marks,
+            out_indexes,
+        ),
+    }
+}

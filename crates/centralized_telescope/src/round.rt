@@ -1,0 +1,151 @@
+// Rounds: their hashes and ids, an element's bin, and the yes or no on a last hash. Rounds, bins and the last hash each have a label.
+ghost use mathlib.Core.Path.{_≡_};
+ghost use mathlib.Core.List.{_++_};
+ghost use Prim.Native.Nat.{_+_, _^_, _<_, _≤_};
+ghost use lib.ListN.{length, take};
+ghost use Rattle.sampling.specs.Fips180.{sha256};
+ghost use Rattle.sampling.specs.Sample.{drawNumber, valueOf};
+ghost use Rattle.centralized_telescope.specs.Elements.{elements, elementAt, tail, listCheck};
+ghost use Rattle.centralized_telescope.specs.Rounds.{startHash, nextHash, drawn, roundId, binOf, belowX, idOption};
+use crate::types::data_of;
+use crate::types::index_bytes;
+use sampling::Draw;
+use sampling::Words;
+use sampling::below_threshold;
+use sampling::eight_bytes;
+use sampling::sample_uniform;
+
+// R, the try. A type of its own, so that neither counter can be handed over for the other.
+pub struct RetryCounter(pub u64);
+
+// S, the tree that is searched within a try.
+pub struct SearchCounter(pub u64);
+
+// A round's id or an element's bin. Nowhere: the round doesn't exist, the element is in no bin.
+pub enum Id {
+    At(u64),
+    Nowhere,
+}
+
+// SHA-256 of a label and three strings, all far within the hash's limit.
+fn digest(label: &[u8], a: &[u8], b: &[u8], c: &[u8]) -> [u8; 32]
+    requires { ⌜ length (now label) + (length (now a) + (length (now b) + length (now c))) ≤ 2 ^ 29 ⌝ }
+    ensures { λ r. ⌜ r ≡ sha256 (now (label .entry) ++ (now (a .entry) ++ (now (b .entry) ++ now (c .entry)))) ⌝ }
+{
+    let h = sampling::sha256::sha256(label, a, b, c);
+    h.digest
+}
+
+// The digest of a label, the bytes `first` and the tail of the element at a place.
+fn tail_digest(
+    label: &[u8],
+    first: &[u8],
+    data: &[u8],
+    ends: &[u32],
+    marks: &[u8],
+    indexes: &[u64],
+    place: usize,
+) -> [u8; 32]
+    requires { ⌜ (listCheck (now «data») (now ends) (now marks) (now indexes) ≡ 0) × (place < length (now ends)) × (length (now label) + length (now first) ≤ 64) ⌝ }
+    ensures { λ r. ⌜ r ≡ sha256 (now (label .entry) ++ (now (first .entry) ++ tail (elementAt (elements (now («data» .entry)) (now (ends .entry)) (now (marks .entry)) (now (indexes .entry))) place))) ⌝ }
+{
+    let own = data_of(data, ends, place);
+    let index = index_bytes(marks, indexes, place);
+    let bytes = index.bytes;
+    let len = index.len;
+    digest(label, first, own, &bytes[..len])
+}
+
+// The hash of a start round.
+pub fn start_hash(retry: RetryCounter, search: SearchCounter) -> [u8; 32]
+    ensures { λ r. ⌜ r ≡ startHash (retry .0) (search .0) ⌝ }
+{
+    let retry_bytes = eight_bytes(retry.0);
+    let search_bytes = eight_bytes(search.0);
+    digest(b"Telescope-round_hash", &retry_bytes, &search_bytes, b"")
+}
+
+// The hash of the round after the one with the hash h, by the element at a place.
+pub fn next_hash(
+    h: [u8; 32],
+    data: &[u8],
+    ends: &[u32],
+    marks: &[u8],
+    indexes: &[u64],
+    place: usize,
+) -> [u8; 32]
+    requires { ⌜ (listCheck (now «data») (now ends) (now marks) (now indexes) ≡ 0) × (place < length (now ends)) ⌝ }
+    ensures { λ r. ⌜ r ≡ nextHash h (elementAt (elements (now («data» .entry)) (now (ends .entry)) (now (marks .entry)) (now (indexes .entry))) place) ⌝ }
+{
+    tail_digest(
+        b"Telescope-round_hash",
+        &h,
+        data,
+        ends,
+        marks,
+        indexes,
+        place,
+    )
+}
+
+// The first 16 bytes of a digest: what is sampled.
+fn first_half(h: [u8; 32]) -> [u8; 16]
+    ensures { λ r. ⌜ r ≡ take 16 h ⌝ }
+{
+    let mut half = [0u8; 16];
+    bytes::copy(&h[..16], &mut half);
+    half
+}
+
+// What is drawn, if anything.
+fn id_of(d: Draw) -> Id
+    ensures { λ r. ⌜ idOption r ≡ drawn (drawNumber d) ⌝ }
+{
+    match d {
+        Draw::Value(v) => Id::At(v),
+        Draw::NoDraw => Id::Nowhere,
+        Draw::Refused => Id::Nowhere,
+    }
+}
+
+// The id of the round with the hash h, n being set_size.
+pub fn round_id(h: [u8; 32], n: u64) -> Id
+    ensures { λ r. ⌜ idOption r ≡ roundId n h ⌝ }
+{
+    id_of(sample_uniform(first_half(h), n))
+}
+
+// The bin of the element at a place, in the try `retry`.
+pub fn bin_of(
+    retry: RetryCounter,
+    data: &[u8],
+    ends: &[u32],
+    marks: &[u8],
+    indexes: &[u64],
+    place: usize,
+    n: u64,
+) -> Id
+    requires { ⌜ (listCheck (now «data») (now ends) (now marks) (now indexes) ≡ 0) × (place < length (now ends)) ⌝ }
+    ensures { λ r. ⌜ idOption r ≡ binOf n (retry .0) (elementAt (elements (now («data» .entry)) (now (ends .entry)) (now (marks .entry)) (now (indexes .entry))) place) ⌝ }
+{
+    let retry_bytes = eight_bytes(retry.0);
+    round_id(
+        tail_digest(
+            b"Telescope-bin_hash",
+            &retry_bytes,
+            data,
+            ends,
+            marks,
+            indexes,
+            place,
+        ),
+        n,
+    )
+}
+
+// Whether a chain of full length with the last hash h passes, x being the threshold X of q.
+pub fn says_yes(h: [u8; 32], x: Words) -> bool
+    ensures { λ r. ⌜ r ≡ belowX (valueOf x) h ⌝ }
+{
+    below_threshold(first_half(digest(b"Telescope-proof_hash", &h, b"", b"")), x)
+}

@@ -1,0 +1,57 @@
+-- `alba_check_distinct`: the number of each answer.
+use mathlib.Core.Path.{sym, ap, _∙_}
+use mathlib.Core.Bool.{true, false}
+use Rattle.centralized_telescope.specs.Distinct.{distinctNumber}
+use Rattle.harness_exports.proofs.Answer.{told}
+use borrow.Author.Needs.{needs}
+use Rattle.harness_exports.proofs.alba_check_distinct.Statement.{statement}
+use Rattle.harness_exports.proofs.alba_check_distinct.Tie as tie
+
+check-distinct-requires : tie.Need-check-distinct-requires
+check-distinct-requires c κs = search needs
+
+enum-told : tie.Need-enum-told
+enum-told c = search needs
+
+enum-told-2 : tie.Need-enum-told-2
+enum-told-2 c = search needs
+
+enum-told-3 : tie.Need-enum-told-3
+enum-told-3 c = search needs
+
+enum-told-4 : tie.Need-enum-told-4
+enum-told-4 c = search needs
+
+returns : tie.Need-returns
+returns c =
+    let z = c .before .before .before .before .before .before .before .args in
+    told (z .«data» .now) (z .ends .now) (z .marks .now) (z .indexes .now) 0 true (sym (ap distinctNumber (c .enum-told .given .1)) ∙ c .before .before .check-distinct .ensures)
+
+returns-2 : tie.Need-returns-2
+returns-2 c =
+    let z = c .before .before .before .before .before .before .before .args in
+    told (z .«data» .now) (z .ends .now) (z .marks .now) (z .indexes .now) 0 false (sym (ap distinctNumber (c .enum-told2 .given .1)) ∙ c .before .before .check-distinct .ensures)
+
+returns-3 : tie.Need-returns-3
+returns-3 c =
+    let z = c .before .before .before .before .before .before .before .args in
+    told (z .«data» .now) (z .ends .now) (z .marks .now) (z .indexes .now) 4 false (sym (ap distinctNumber (c .enum-told3 .given .1)) ∙ c .before .before .check-distinct .ensures)
+
+returns-4 : tie.Need-returns-4
+returns-4 c =
+    let z = c .before .before .before .before .before .before .before .args in
+    told (z .«data» .now) (z .ends .now) (z .marks .now) (z .indexes .now) 5 false (sym (ap distinctNumber (c .enum-told4 .given .1)) ∙ c .before .before .check-distinct .ensures)
+
+pub alba-check-distinct-spec : {M : Type 1} → statement M
+alba-check-distinct-spec =
+    tie.close
+    (tie.spec
+    check-distinct-requires
+    enum-told
+    enum-told-2
+    enum-told-3
+    enum-told-4
+    returns
+    returns-2
+    returns-3
+    returns-4)

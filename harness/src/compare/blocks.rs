@@ -1,0 +1,104 @@
+//! Cases run on all processors, in blocks that don't depend on each other, and how often each answer came.
+
+use super::{Checked, Run};
+use crate::rng::Rng;
+use std::collections::BTreeMap;
+use std::fmt::Write;
+use std::sync::{Mutex, PoisonError};
+use std::thread;
+
+/// Room for the deepest search, whatever the compiler makes of it.
+const STACK: usize = 64 << 20;
+
+/// How often each number was the answer to each question.
+#[derive(Default)]
+pub struct Tally(BTreeMap<(&'static str, u32), u64>);
+
+impl Tally {
+    pub fn count(&mut self, question: &'static str, answer: u32) {
+        *self.0.entry((question, answer)).or_default() += 1;
+    }
+
+    fn add(&mut self, other: &Tally) {
+        for (key, times) in &other.0 {
+            *self.0.entry(*key).or_default() += times;
+        }
+    }
+
+    fn sum(&self) -> u64 {
+        self.0.values().sum()
+    }
+
+    /// How many answers there were to each question, in parentheses; nothing where nothing was asked.
+    pub fn totals(&self) -> String {
+        let mut questions: BTreeMap<&str, u64> = BTreeMap::new();
+        for ((question, _), times) in &self.0 {
+            *questions.entry(question).or_default() += times;
+        }
+        let questions: Vec<String> = questions.iter().map(|(question, times)| format!("{question}s {times}")).collect();
+        match questions.is_empty() {
+            true => String::new(),
+            false => format!(" ({})", questions.join(", ")),
+        }
+    }
+
+    /// A line for each question, the answers by their numbers.
+    pub fn lines(&self, kind: &str) -> String {
+        let mut questions: BTreeMap<&str, Vec<String>> = BTreeMap::new();
+        for ((question, answer), times) in &self.0 {
+            questions.entry(question).or_default().push(format!("{answer} {times} times"));
+        }
+        questions.iter().fold(String::new(), |mut text, (question, answers)| {
+            writeln!(text, "{kind}, {question}: {}", answers.join(", ")).expect("a string takes all");
+            text
+        })
+    }
+}
+
+/// One block under way: random numbers of its own, and its answers.
+pub struct Block {
+    pub rng: Rng,
+    pub tally: Tally,
+}
+
+/// What has been shared out, and what came of it.
+struct Shared<'a> {
+    run: &'a mut Run,
+    next: u64,
+    failed: Checked,
+}
+
+/// Runs the blocks 0 to `blocks` - 1. What a block runs is fixed by the seed and its number, however many processors there are.
+pub fn run(run: &mut Run, blocks: u64, work: impl Fn(u64, &mut Block) -> Checked + Sync) -> Checked {
+    let (seed, stream) = run.seeds;
+    let shared = Mutex::new(Shared { run, next: 0, failed: Ok(()) });
+    let worker = || {
+        while let Some(number) = take(&shared, blocks) {
+            let mut block = Block { rng: Rng::new(seed, (number + 1) << 16 | stream), tally: Tally::default() };
+            let done = work(number, &mut block);
+            give_back(&shared, number, &block.tally, done);
+        }
+    };
+    thread::scope(|scope| {
+        for _ in 0..thread::available_parallelism().map_or(1, |n| n.get()) {
+            thread::Builder::new().stack_size(STACK).spawn_scoped(scope, worker).expect("a thread");
+        }
+    });
+    shared.into_inner().unwrap_or_else(PoisonError::into_inner).failed
+}
+
+fn take(shared: &Mutex<Shared>, blocks: u64) -> Option<u64> {
+    let mut shared = shared.lock().ok()?;
+    let number = shared.next;
+    shared.next += 1;
+    (number < blocks && shared.failed.is_ok()).then_some(number)
+}
+
+fn give_back(shared: &Mutex<Shared>, number: u64, tally: &Tally, done: Checked) {
+    let mut shared = shared.lock().unwrap_or_else(PoisonError::into_inner);
+    shared.run.tally.add(tally);
+    shared.run.count_more(tally.sum());
+    if let (Err(case), true) = (done, shared.failed.is_ok()) {
+        shared.failed = Err(format!("  block {number}\n{case}"));
+    }
+}

@@ -1,0 +1,113 @@
+//! Faults put into settings and lists that had none.
+
+use super::refusals;
+use crate::{ffi::Settings, list::List, rng::Rng};
+
+/// The most elements of a list, and the most data bytes of one.
+pub const ELEMENTS: usize = 65_536;
+pub const BYTES: usize = 4096;
+
+/// A number over the limit: the next one, one of the highest, or any.
+fn over(rng: &mut Rng, limit: u64) -> u64 {
+    match rng.below(4) {
+        0 => limit + 1,
+        1 => u64::MAX - rng.below(2),
+        // The limit would be kept to if only the low half were looked at.
+        2 => limit | 1 << (48 + 1 + rng.below(15)),
+        _ => limit + 1 + rng.below(u64::MAX - limit),
+    }
+}
+
+pub fn in_settings(rng: &mut Rng, s: &mut Settings) {
+    match rng.below(6) {
+        0 => s.set_size = if rng.below(3) == 0 { 0 } else { over(rng, 32_768) },
+        1 => s.proof_size = over(rng, 1024),
+        2 => s.max_retries = over(rng, 65_535),
+        3 => s.search_width = over(rng, (1 << 32) - 1),
+        4 => s.dfs_bound = over(rng, 1 << 48),
+        _ => {
+            let listed = refusals::unlawful();
+            s.q = listed[rng.below(listed.len() as u64) as usize];
+        }
+    }
+}
+
+pub fn in_list(rng: &mut Rng, list: &mut List) {
+    let place = rng.below(list.len().max(1) as u64) as usize;
+    match rng.below(8) {
+        0 => one_off(rng, &mut list.ends, 0),
+        1 => one_off(rng, &mut list.marks, 0),
+        2 => one_off(rng, &mut list.indexes, 0),
+        3 => set(&mut list.marks, place, 2 + rng.below(254) as u8),
+        4 if place > 0 && list.ends.get(place - 1).is_some_and(|end| *end > 0) => {
+            let before = u64::from(list.ends[place - 1]);
+            set(&mut list.ends, place, rng.below(before) as u32);
+        }
+        5 => {
+            let past = list.data.len() as u64 + 1;
+            let end = past + if rng.below(2) == 0 { 0 } else { rng.below((1 << 32) - past) };
+            set(&mut list.ends, place, end as u32);
+        }
+        6 => {
+            list.push(&vec![0x11; BYTES + 1], None, 0);
+        }
+        // The data's own end comes too early.
+        _ => {
+            list.data.pop();
+        }
+    }
+}
+
+fn set<T>(numbers: &mut [T], place: usize, number: T) {
+    if let Some(there) = numbers.get_mut(place) {
+        *there = number;
+    }
+}
+
+/// One number more or less.
+fn one_off<T>(rng: &mut Rng, numbers: &mut Vec<T>, more: T) {
+    if rng.below(2) == 0 {
+        numbers.push(more);
+    } else {
+        numbers.pop();
+    }
+}
+
+/// So many elements of one byte, or of none.
+pub fn long_list(len: usize, bytes: usize) -> List {
+    let mut list = List::default();
+    for place in 0..len {
+        list.push(&vec![place as u8; bytes], (place % 2 == 0).then_some(place as u64), 7);
+    }
+    list
+}
+
+/// Lists with their number: those at the limits, those one over, and those with another fault at their very end.
+pub fn large_lists() -> Vec<List> {
+    let mut lists = vec![
+        long_list(ELEMENTS, 1),
+        long_list(ELEMENTS + 1, 1),
+        long_list(ELEMENTS + 1, 0),
+        long_list(70_000, 1),
+        long_list(3, BYTES),
+        long_list(3, BYTES + 1),
+    ];
+    for len in [70_000, ELEMENTS, ELEMENTS + 1] {
+        let whole = long_list(len, 1);
+        let last = len - 1;
+        let mut bad = [whole.clone(), whole.clone(), whole.clone(), whole.clone(), whole];
+        bad[0].marks[last] = 2;
+        bad[1].ends[last] += 1;
+        bad[2].ends[last] -= 2;
+        bad[3].marks.pop();
+        bad[4].indexes.push(0);
+        lists.extend(bad);
+    }
+    // Too long an element first, then a mark over 1, and the other way about.
+    let mut long_first = long_list(3, BYTES + 1);
+    long_first.marks[2] = 2;
+    let mut mark_first = long_list(3, BYTES + 1);
+    mark_first.marks[0] = 255;
+    lists.extend([long_first, mark_first]);
+    lists
+}

@@ -1,0 +1,57 @@
+//! Searches with each setting and each list at its limit, and the specification's cases i to l, against the Rust.
+
+use super::{blocks, faults, searches, verdicts, Checked, Run};
+use crate::{ffi::Settings, list::List};
+
+pub fn run(run: &mut Run, _: u64) -> Checked {
+    let cases = cases();
+    blocks::run(run, cases.len() as u64, |number, block| {
+        let (settings, list) = &cases[number as usize];
+        let outcome = searches::check(block, settings, list)?;
+        if outcome.number == 0 {
+            verdicts::of_proof(block, settings, list, &outcome)?;
+        }
+        Ok(())
+    })
+}
+
+fn cases() -> Vec<(Settings, List)> {
+    let mut cases = Vec::new();
+    let of = faults::long_list;
+    let one = Settings { set_size: 1, proof_size: 1024, max_retries: 2, search_width: 1, dfs_bound: 1 << 48, q: 1.0 };
+    // The deepest search: found, not found, and with a choice at each length.
+    cases.push((one, of(1, 48)));
+    cases.push((Settings { q: 0.0, ..one }, of(1, faults::BYTES)));
+    cases.push((Settings { dfs_bound: 1025, ..one }, of(1, 0)));
+    cases.push((Settings { dfs_bound: 1024, ..one }, of(1, 0)));
+    cases.push((Settings { q: 0.0, dfs_bound: 9000, ..one }, of(2, 8)));
+    cases.push((Settings { q: 0.001, dfs_bound: 9000, ..one }, of(3, 8)));
+    // The largest set, its bins, and the longest lists.
+    for (set_size, elements) in [(32_768, 32_768), (32_768, faults::ELEMENTS), (32_767, faults::ELEMENTS), (1, faults::ELEMENTS)] {
+        let settings = Settings { set_size, proof_size: 3, max_retries: 3, search_width: 40, dfs_bound: 1000, q: 0.01 };
+        cases.push((settings, of(elements, 2)));
+        cases.push((Settings { q: 0.0, ..settings }, of(elements, 2)));
+    }
+    // The most retries, the greatest width and bound.
+    let idle = Settings { proof_size: 0, max_retries: 65_535, q: 0.0, ..one };
+    for dfs_bound in [1 << 48, 65_536, 65_535, 65_534, 1, 0] {
+        cases.push((Settings { dfs_bound, ..idle }, of(1, 1)));
+    }
+    cases.push((Settings { search_width: (1 << 32) - 1, max_retries: 2, dfs_bound: 1000, ..idle }, of(1, 1)));
+    cases.push((Settings { search_width: (1 << 32) - 1, max_retries: 2, q: 0.001, ..idle }, of(1, 1)));
+    cases.extend(i_to_l());
+    cases
+}
+
+fn i_to_l() -> Vec<(Settings, List)> {
+    let mut cases = Vec::new();
+    for (elements, proof_size, search_width, max_retries, bounds) in
+        [(1, 2, 1, 3, [100, 9]), (2, 2, 1, 1, [100, 4]), (1, 0, 2, 1, [5, 2]), (1, 0, 2, 0, [0, 1])]
+    {
+        for dfs_bound in bounds {
+            cases
+                .push((Settings { set_size: 1, proof_size, max_retries, search_width, dfs_bound, q: 0.0 }, faults::long_list(elements, 4)));
+        }
+    }
+    cases
+}

@@ -1,0 +1,170 @@
+//! What `alba_prove` refuses: the number by the order of the specification's table, and nothing altered.
+
+use super::blocks::{self, Block};
+use super::fence::Fenced;
+use super::{faults, rules, searches, shown_list, Checked, Run};
+use crate::{ffi, ffi::Settings, list::List, rng::Rng};
+
+const BLOCK: u64 = 100;
+
+/// What the prover is lent.
+#[derive(Clone)]
+struct Given {
+    settings: Settings,
+    list: List,
+    places: usize,
+    bins: usize,
+}
+
+pub fn run(run: &mut Run, cases: u64) -> Checked {
+    blocks::run(run, cases.div_ceil(BLOCK), |_, block| {
+        for _ in 0..BLOCK {
+            let mut given = lawful(&mut block.rng);
+            for _ in 0..1 + block.rng.below(3) {
+                fault(&mut block.rng, &mut given);
+            }
+            check(block, &given)?;
+        }
+        Ok(())
+    })?;
+    let listed = listed();
+    blocks::run(run, listed.len() as u64, |number, block| check(block, &listed[number as usize]))?;
+    blocks::run(run, 1, |_, block| nulls(block))
+}
+
+/// A search that both serve, with workspace just enough.
+fn lawful(rng: &mut Rng) -> Given {
+    let settings = Settings { set_size: 1 + rng.below(6), proof_size: rng.below(5), ..short() };
+    Given { settings, list: searches::any_list(rng, settings.set_size as usize), ..enough(settings, List::default()) }
+}
+
+/// Settings of a search that ends at once.
+fn short() -> Settings {
+    Settings { set_size: 1, proof_size: 1, max_retries: 1, search_width: 2, dfs_bound: 10, q: 0.5 }
+}
+
+fn enough(settings: Settings, list: List) -> Given {
+    Given { settings, list, places: settings.proof_size as usize, bins: 3 * settings.set_size as usize + 1 }
+}
+
+fn fault(rng: &mut Rng, given: &mut Given) {
+    match rng.below(10) {
+        0..=2 => faults::in_settings(rng, &mut given.settings),
+        3..=5 => faults::in_list(rng, &mut given.list),
+        6 => given.places = given.places.saturating_sub(1),
+        7 => given.bins = if rng.below(4) == 0 { rng.below(given.bins as u64 + 1) as usize } else { given.bins.saturating_sub(1) },
+        8 => (given.places, given.bins) = (0, 0),
+        _ => {
+            let mut places: Vec<u32> = (0..given.settings.set_size.min(given.list.len() as u64) as u32).collect();
+            places.pop();
+            if rules::list(&given.list).is_ok() {
+                given.list = given.list.at(&places);
+            }
+        }
+    }
+}
+
+/// Each limit just kept to and just broken, the workspace just enough and one short, and lists at and over their limits.
+fn listed() -> Vec<Given> {
+    let few = faults::long_list(5, 3);
+    let with = |change: fn(&mut Settings)| {
+        let mut settings = short();
+        change(&mut settings);
+        enough(settings, faults::long_list(5, 3))
+    };
+    let mut all = vec![
+        with(|s| s.set_size = 0),
+        with(|s| s.set_size = 32_769),
+        with(|s| s.set_size = 32_768),
+        with(|s| s.proof_size = 1025),
+        with(|s| s.max_retries = 65_536),
+        with(|s| s.search_width = 1 << 32),
+        with(|s| s.dfs_bound = (1 << 48) + 1),
+        with(|s| s.q = -0.0),
+        with(|s| s.q = 1.0),
+        with(|s| s.q = f64::from_bits(1f64.to_bits() + 1)),
+        with(|s| s.set_size = 5),
+        with(|s| s.set_size = 6),
+        with(|s| (s.set_size, s.proof_size, s.q) = (0, 1025, f64::NAN)),
+        with(|s| (s.proof_size, s.q) = (1025, f64::NAN)),
+        with(|s| s.max_retries = 0),
+        with(|s| (s.max_retries, s.dfs_bound) = (0, 0)),
+    ];
+    // 6 comes before 10, and each workspace is looked at.
+    for set_size in [5, 6] {
+        let whole = enough(Settings { set_size, proof_size: 3, ..short() }, few.clone());
+        all.push(Given { places: 2, ..whole.clone() });
+        all.push(Given { bins: 3 * set_size as usize, ..whole.clone() });
+        all.push(Given { places: 2, bins: 3 * set_size as usize, ..whole.clone() });
+        all.push(Given { places: 0, bins: 0, ..whole });
+    }
+    for list in faults::large_lists() {
+        let whole = enough(Settings { set_size: 3, ..short() }, list);
+        all.push(whole.clone());
+        // 5 and 4 come before 6.
+        all.push(Given { bins: 0, ..whole });
+    }
+    all
+}
+
+/// A refusal with its number and nothing altered; without a fault, the comparison with the Rust.
+fn check(block: &mut Block, given: &Given) -> Checked {
+    let Given { settings, list, places, bins } = given;
+    let Err(due) = rules::prover(settings, list, *places, *bins) else {
+        return searches::check(block, settings, list).map(|_| ());
+    };
+    if due == ffi::NOT_ENOUGH {
+        let theirs = crate::original::prove(settings, &list.elements());
+        if theirs != due {
+            return Err(format!("  {settings:?}\n{}  due: {due}\n  the Rust: {theirs}\n", shown_list(list)));
+        }
+    }
+    let rng = &mut block.rng;
+    let out_len = [0, 2, 3, 3, 3, 5][rng.below(6) as usize];
+    let places = Fenced::new(rng, *places, |word| word as u32);
+    let bins = Fenced::new(rng, *bins, |word| word as u32);
+    let out = Fenced::new(rng, out_len, |word| word);
+    refuse(block, settings, list, due, (places, bins, out))
+}
+
+type Lent = (Fenced<u32>, Fenced<u32>, Fenced<u64>);
+
+fn refuse(block: &mut Block, settings: &Settings, list: &List, due: u32, lent: Lent) -> Checked {
+    let (mut places, mut bins, mut out) = lent;
+    let after = list.clone();
+    let ours = ffi::prove(settings, after.lent(), &mut places, &mut bins, &mut out);
+    let result = if out.len() < 3 { &[][..] } else { &[0; 3] };
+    if ours == due && places.holds(&[]) && bins.holds(&[]) && out.holds(result) && after == *list {
+        block.tally.count("refusal", ours);
+        return Ok(());
+    }
+    Err(format!(
+        "  {settings:?}, q's bits 0x{:016x}\n{}  ours: {ours}\n  due: {due}\n{}{}{}  the list is {}\n",
+        settings.q.to_bits(),
+        shown_list(list),
+        out.story("R, S and count", result),
+        places.story("places", &[]),
+        bins.story("bin table", &[]),
+        super::verdicts::as_it_was(after == *list)
+    ))
+}
+
+/// Null pointers with length 0 are empty: no workspace, and no list.
+fn nulls(block: &mut Block) -> Checked {
+    let list = faults::long_list(3, 1);
+    let lent =
+        |rng: &mut Rng| (Fenced::null(rng, |word| word as u32), Fenced::null(rng, |word| word as u32), Fenced::null(rng, |word| word));
+    let given = lent(&mut block.rng);
+    refuse(block, &short(), &list, ffi::TOO_SHORT, given)?;
+    let (mut places, mut bins, mut out) = lent(&mut block.rng);
+    let nothing = ffi::Listed { data: None, ends: None, marks: None, indexes: None };
+    let ours = ffi::prove(&short(), nothing, &mut places, &mut bins, &mut out);
+    let mut bins = Fenced::new(&mut block.rng, 4, |word| word as u32);
+    let without_places = ffi::prove(&Settings { proof_size: 0, ..short() }, nothing, &mut places, &mut bins, &mut out);
+    if (ours, without_places) != (ffi::TOO_SHORT, ffi::NOT_ENOUGH) || !bins.holds(&[]) {
+        return Err(format!("  null pointers: ours {ours} and {without_places}, due {} and {}", ffi::TOO_SHORT, ffi::NOT_ENOUGH));
+    }
+    block.tally.count("refusal", ours);
+    block.tally.count("refusal", without_places);
+    Ok(())
+}

@@ -1,0 +1,213 @@
+//! `alba_prove` against the Rust's search, and what it leaves in every lent buffer against the specification's words.
+
+use super::blocks::{self, Block};
+use super::fence::Fenced;
+use super::{bernoulli, rules, shown_list, verdicts, Checked, Run};
+use crate::{ffi, ffi::Settings, list::List, original, rng::Rng};
+
+/// Searches of one list, and of such a family, in a block.
+const FAMILY: u64 = 4;
+const BLOCK: u64 = 64;
+/// The completeness of the realistic settings.
+const COMPLETENESS: f64 = 128.0;
+
+/// What a search came to: its number, and where there is a proof its counters and places.
+pub struct Outcome {
+    pub number: u32,
+    pub retry_counter: u64,
+    pub search_counter: u64,
+    pub count: u64,
+    pub places: Vec<u32>,
+}
+
+/// Random small settings and lists. Each list is searched again with bounds at and around the count that came out before, where
+/// the outcome turns from found to not found, and from the one to the other kind of that.
+pub fn small(run: &mut Run, cases: u64) -> Checked {
+    blocks::run(run, cases.div_ceil(FAMILY * BLOCK), |_, block| {
+        for _ in 0..BLOCK {
+            let mut settings = any_settings(&mut block.rng);
+            let list = any_list(&mut block.rng, settings.set_size as usize);
+            for _ in 0..FAMILY {
+                let outcome = check(block, &settings, &list)?;
+                if outcome.number == 0 {
+                    verdicts::of_proof(block, &settings, &list, &outcome)?;
+                }
+                settings.dfs_bound = next_bound(&mut block.rng, &settings, &outcome);
+            }
+        }
+        Ok(())
+    })
+}
+
+/// Small-case settings as they are meant to be used, with lists from set_size elements on to more than are kept.
+pub fn realistic(run: &mut Run, _: u64) -> Checked {
+    let mut cases = Vec::new();
+    for set_size in [1000, 200] {
+        for (proof_size, times) in [(200, 1), (50, 5)] {
+            for elements in [set_size, set_size + set_size / 4, 2 * set_size, 2 * set_size + 7] {
+                cases.extend((0..times).map(|_| (original::small_case(set_size, proof_size, COMPLETENESS), elements)));
+            }
+        }
+    }
+    blocks::run(run, cases.len() as u64, |number, block| {
+        let (settings, elements) = &cases[number as usize];
+        let list = list_of_48(&mut block.rng, *elements);
+        let outcome = check(block, settings, &list)?;
+        if outcome.number == 0 {
+            verdicts::of_proof(block, settings, &list, &outcome)?;
+        }
+        Ok(())
+    })
+}
+
+/// `n` elements of 48 random bytes and an index, as the Rust's own benchmarks have them.
+pub fn list_of_48(rng: &mut Rng, n: u64) -> List {
+    let mut list = List::default();
+    let mut data = [0; 48];
+    for index in 0..n {
+        rng.fill(&mut data);
+        list.push(&data, Some(index), 0);
+    }
+    list
+}
+
+/// One search of a list that both serve: number, counters, count and places, the bin table, and that nothing else has changed.
+pub fn check(block: &mut Block, s: &Settings, list: &List) -> Result<Outcome, String> {
+    let due = due(s, list);
+    let table = match s.max_retries {
+        0 => Vec::new(),
+        last => rules::bin_table(list, s.set_size, if due.number == 0 { due.retry_counter } else { last }),
+    };
+    let rng = &mut block.rng;
+    let (places_len, bins_len) = (s.proof_size as usize + more(rng), 3 * s.set_size as usize + 1 + more(rng));
+    let out_len = if rng.below(16) == 0 { rng.below(3) as usize } else { 3 + more(rng) };
+    let mut places = Fenced::new(rng, places_len, |word| word as u32);
+    let mut bins = Fenced::new(rng, bins_len, |word| word as u32);
+    let mut out = Fenced::new(rng, out_len, |word| word);
+    let lent = list.clone();
+    let ours = ffi::prove(s, lent.lent(), &mut places, &mut bins, &mut out);
+
+    let result = [due.retry_counter, due.search_counter, due.count];
+    let result = if out_len < 3 { &[][..] } else { &result };
+    let equal = ours == due.number && places.holds(&due.places) && bins.holds(&table) && out.holds(result) && lent == *list;
+    if !equal {
+        return Err(format!(
+            "  {s:?}, q's bits 0x{:016x}\n{}  ours: {ours}\n  the Rust: {}\n{}{}{}{}",
+            s.q.to_bits(),
+            shown_list(list),
+            due.number,
+            out.story("R, S and count", result),
+            places.story("places", &due.places),
+            bins.story("bin table", &table),
+            if lent == *list { String::new() } else { format!("  the list after:\n{}", shown_list(&lent)) }
+        ));
+    }
+    block.tally.count("outcome", ours);
+    Ok(due)
+}
+
+/// What the Rust finds. Its proof's elements know their places.
+fn due(s: &Settings, list: &List) -> Outcome {
+    let (count, answer) = original::search(s, &list.elements());
+    match answer {
+        Ok(proof) => Outcome {
+            number: 0,
+            retry_counter: proof.retry_counter,
+            search_counter: proof.search_counter,
+            count,
+            places: proof.element_sequence.iter().map(|element| element.data.place).collect(),
+        },
+        Err(number) => Outcome { number, retry_counter: 0, search_counter: 0, count, places: Vec::new() },
+    }
+}
+
+/// By how much a buffer is longer than it must be: often not at all.
+fn more(rng: &mut Rng) -> usize {
+    if rng.below(2) == 0 {
+        0
+    } else {
+        rng.below(9) as usize
+    }
+}
+
+/// Settings of searches that end soon.
+fn any_settings(rng: &mut Rng) -> Settings {
+    let set_size = match rng.below(3) {
+        0 => 1 << rng.below(6),
+        1 => 1 + rng.below(8),
+        _ => 1 + rng.below(40),
+    };
+    let search_width = match rng.below(4) {
+        0 => rng.below(4),
+        _ => 1 + rng.below(40),
+    };
+    let bits = rng.below(10);
+    Settings {
+        set_size,
+        proof_size: rng.below(13),
+        max_retries: if rng.below(16) == 0 { 0 } else { 1 + rng.below(4) },
+        search_width,
+        dfs_bound: rng.below(2 << bits),
+        q: any_q(rng, search_width),
+    }
+}
+
+/// Both ends, and such that no, a few, or most chains of full length pass.
+fn any_q(rng: &mut Rng, search_width: u64) -> f64 {
+    let part = (rng.word() >> 11) as f64 / (1u64 << 53) as f64;
+    match rng.below(8) {
+        0 => 0.0,
+        1 => 1.0,
+        2 => part,
+        3 => bernoulli::any_q(rng),
+        _ => part / (1 + search_width) as f64,
+    }
+}
+
+/// A bound at or near which the outcome may turn; a greater one where the bound was what ended the search.
+fn next_bound(rng: &mut Rng, s: &Settings, last: &Outcome) -> u64 {
+    let count = last.count;
+    let bound = match rng.below(8) {
+        0..=3 if last.number == ffi::NOT_FOUND_IN_BOUNDS => count + 1 + rng.below(4 * count + 1),
+        0 => count / s.max_retries.max(1),
+        1 => rng.below(count + 1),
+        2 => rng.below(4),
+        3 => 2 * count + 1,
+        4 => count + 1,
+        5 => count,
+        _ => count.saturating_sub(1),
+    };
+    // With each turn the search could otherwise grow by the number of retries.
+    bound.min(1000)
+}
+
+/// From set_size elements to more than are kept; with and without index, with empty data, with equal elements, with bytes behind the last.
+pub fn any_list(rng: &mut Rng, set_size: usize) -> List {
+    let len = match rng.below(4) {
+        0 => set_size,
+        1 => 2 * set_size + rng.below(9) as usize,
+        _ => set_size + rng.below(set_size as u64 + 1) as usize,
+    };
+    let (longest, indexed, repeats) = ([1, 9, 49, 100][rng.below(4) as usize], rng.below(3), rng.below(3) == 0);
+    let mut list = List::default();
+    let mut room = [0; 100];
+    for place in 0..len {
+        if place > 0 && repeats && rng.below(3) == 0 {
+            let again = rng.below(place as u64) as usize;
+            let (data, index) = (list.data_of(again).to_vec(), list.index_of(again));
+            list.push(&data, index, rng.word());
+            continue;
+        }
+        let data = &mut room[..rng.below(longest) as usize];
+        rng.fill(data);
+        let index = match indexed {
+            0 => None,
+            1 => Some(place as u64),
+            _ => (rng.below(2) == 0).then(|| rng.word() >> rng.below(64)),
+        };
+        list.push(data, index, rng.word());
+    }
+    let behind = rng.below(4) as usize;
+    list.data.resize(list.data.len() + behind, 0x5a);
+    list
+}

@@ -1,0 +1,197 @@
+//! `alba_verify` against the Rust's verifier: on each proof found, and on many damaged copies of it.
+
+use super::blocks::Block;
+use super::{rules, shown_list, Checked};
+use crate::{ffi, ffi::Settings, list::List, original, original::ProofOf, rng::Rng};
+
+/// A proof and the settings that it is held to.
+#[derive(Clone)]
+pub struct Claim {
+    pub settings: Settings,
+    pub retry_counter: u64,
+    pub search_counter: u64,
+    pub list: List,
+}
+
+/// The proof as it is, and its damaged copies. What a damaged copy is worth is the Rust's to say: some are proofs all the same.
+pub fn of_proof(block: &mut Block, settings: &Settings, list: &List, found: &super::searches::Outcome) -> Checked {
+    let proof = Claim {
+        settings: *settings,
+        retry_counter: found.retry_counter,
+        search_counter: found.search_counter,
+        list: list.at(&found.places),
+    };
+    // What is done to the list is done under settings that the proof's own R keeps to, so that its chain is looked at.
+    let mut kept_to = proof.clone();
+    kept_to.settings.max_retries = kept_to.settings.max_retries.max(kept_to.retry_counter + 1);
+    let mut claims = other_counters(&mut block.rng, &proof);
+    claims.extend(other_settings(&mut block.rng, &proof));
+    for damage in [element, byte, index, mark, unread, order, border, one_more, one_less] {
+        let mut claim = kept_to.clone();
+        damage(&mut block.rng, &mut claim.list, list);
+        claims.push(claim);
+    }
+    claims.extend([proof, kept_to]);
+    // The Rust has no limits, so at a limit a damaged copy may be one that only it serves.
+    claims.retain(|claim| rules::settings(&claim.settings).is_ok() && rules::list(&claim.list).is_ok());
+    claims.iter().try_for_each(|claim| check(block, claim))
+}
+
+/// One claim with a lawful list: both verdicts, and that the list lent is as it was.
+pub fn check(block: &mut Block, claim: &Claim) -> Checked {
+    let Claim { settings, retry_counter, search_counter, list } = claim;
+    let written = list.written();
+    let lent = written.clone();
+    let ours = ffi::verify(settings, *retry_counter, *search_counter, lent.lent());
+    let theirs = original::verify(settings, &ProofOf::from(*retry_counter, *search_counter, list.elements()));
+    if ours != theirs || lent != written {
+        return Err(format!("{}  ours: {ours}\n  the Rust: {theirs}\n  the list is {}\n", shown(claim), as_it_was(lent == written)));
+    }
+    block.tally.count("verdict", ours);
+    Ok(())
+}
+
+pub fn as_it_was(is_so: bool) -> &'static str {
+    if is_so {
+        "as it was"
+    } else {
+        "ALTERED"
+    }
+}
+
+pub fn shown(claim: &Claim) -> String {
+    let s = &claim.settings;
+    format!(
+        "  {s:?}, q's bits 0x{:016x}\n  R {}, S {}\n{}",
+        s.q.to_bits(),
+        claim.retry_counter,
+        claim.search_counter,
+        shown_list(&claim.list)
+    )
+}
+
+/// R and S beside their own, at the limits and beyond, and each in the place of the other.
+fn other_counters(rng: &mut Rng, proof: &Claim) -> Vec<Claim> {
+    let (s, r, c) = (&proof.settings, proof.retry_counter, proof.search_counter);
+    let counters = [
+        (0, c),
+        (r - 1, c),
+        (r + 1, c),
+        (s.max_retries, c),
+        (s.max_retries.saturating_sub(1), c),
+        (rng.below(s.max_retries + 1), c),
+        (rng.word(), c),
+        (r, s.search_width),
+        (r, s.search_width - 1),
+        (r, c + 1),
+        (r, rng.below(s.search_width)),
+        (r, rng.word()),
+        (c, r),
+    ];
+    counters.map(|(retry_counter, search_counter)| Claim { retry_counter, search_counter, ..proof.clone() }).to_vec()
+}
+
+fn other_settings(rng: &mut Rng, proof: &Claim) -> Vec<Claim> {
+    let s = proof.settings;
+    let settings = [
+        Settings { q: 0.0, max_retries: s.max_retries + 1, ..s },
+        Settings { q: s.q / 2.0, max_retries: s.max_retries + 1, ..s },
+        Settings { set_size: s.set_size + 1, max_retries: s.max_retries + 1, ..s },
+        Settings { proof_size: s.proof_size + 1, ..s },
+        Settings { max_retries: proof.retry_counter, ..s },
+        // The bound is the prover's alone.
+        Settings { dfs_bound: rng.below(2), max_retries: s.max_retries + 1, ..s },
+    ];
+    settings.map(|settings| Claim { settings, ..proof.clone() }).to_vec()
+}
+
+/// Replaces an element of the proof; `None` takes it out.
+fn replace(proof: &mut List, place: usize, other: Option<(&[u8], Option<u64>)>) {
+    let mut list = List::default();
+    for at in 0..proof.len() {
+        let own = Some((proof.data_of(at), proof.index_of(at)));
+        if let Some((data, index)) = if at == place { other } else { own } {
+            list.push(data, index, proof.indexes[at]);
+        }
+    }
+    *proof = list;
+}
+
+fn any_place(rng: &mut Rng, list: &List) -> Option<usize> {
+    (list.len() > 0).then(|| rng.below(list.len() as u64) as usize)
+}
+
+/// Another element of the prover's list in the place of one.
+fn element(rng: &mut Rng, proof: &mut List, from: &List) {
+    if let (Some(place), Some(other)) = (any_place(rng, proof), any_place(rng, from)) {
+        replace(proof, place, Some((from.data_of(other), from.index_of(other))));
+    }
+}
+
+/// A bit of the data.
+fn byte(rng: &mut Rng, proof: &mut List, _: &List) {
+    if !proof.data.is_empty() {
+        let at = rng.below(proof.data.len() as u64) as usize;
+        proof.data[at] ^= 1 << rng.below(8);
+    }
+}
+
+/// An index, by its lowest or by any bit.
+fn index(rng: &mut Rng, proof: &mut List, _: &List) {
+    if let Some(place) = any_place(rng, proof).filter(|place| proof.marks[*place] == 1) {
+        proof.indexes[place] ^= if rng.below(2) == 0 { 1 } else { 1 << rng.below(64) };
+    }
+}
+
+/// A mark: the index then counts where it didn't, or the other way about.
+fn mark(rng: &mut Rng, proof: &mut List, _: &List) {
+    if let Some(place) = any_place(rng, proof) {
+        proof.marks[place] ^= 1;
+    }
+}
+
+/// What isn't read: indexes where the mark is 0, and data behind the last end.
+fn unread(rng: &mut Rng, proof: &mut List, _: &List) {
+    for place in 0..proof.len() {
+        if proof.marks[place] == 0 {
+            proof.indexes[place] = rng.word();
+        }
+    }
+    proof.data.push(rng.word() as u8);
+}
+
+/// Two elements in each other's place.
+fn order(rng: &mut Rng, proof: &mut List, _: &List) {
+    if let (Some(a), Some(b)) = (any_place(rng, proof), any_place(rng, proof)) {
+        let mut places: Vec<u32> = (0..proof.len() as u32).collect();
+        places.swap(a, b);
+        *proof = proof.at(&places);
+    }
+}
+
+/// The border between two elements, by a byte.
+fn border(rng: &mut Rng, proof: &mut List, _: &List) {
+    if let Some(place) = any_place(rng, proof) {
+        let end = proof.ends[place];
+        let next = proof.ends.get(place + 1).map_or(proof.data.len(), |end| *end as usize);
+        if (end as usize) < next {
+            proof.ends[place] += 1;
+        } else if !proof.data_of(place).is_empty() {
+            proof.ends[place] -= 1;
+        }
+    }
+}
+
+/// An element more, at the end: one of the prover's list.
+fn one_more(rng: &mut Rng, proof: &mut List, from: &List) {
+    if let Some(other) = any_place(rng, from) {
+        proof.push(from.data_of(other), from.index_of(other), 0);
+    }
+}
+
+/// An element less, at any place.
+fn one_less(rng: &mut Rng, proof: &mut List, _: &List) {
+    if let Some(place) = any_place(rng, proof) {
+        replace(proof, place, None);
+    }
+}

@@ -1,0 +1,63 @@
+//! The Rust's prover and verifier, their answers by the specification's numbers.
+
+use crate::ffi::{self, Settings};
+use oracle::centralized_telescope::{params::Params, proof::Proof, telescope::Telescope};
+use oracle::utils::errors::{ProofGenerationError, VerificationError};
+use oracle::utils::types::Element;
+use sha2::Sha256;
+
+pub type ProofOf<E> = Proof<E, Sha256>;
+
+pub fn params(s: &Settings) -> Params {
+    Params {
+        proof_size: s.proof_size,
+        max_retries: s.max_retries,
+        search_width: s.search_width,
+        valid_proof_probability: s.q,
+        dfs_bound: s.dfs_bound,
+    }
+}
+
+/// The settings of the Rust's small case.
+pub fn small_case(set_size: u64, proof_size: u64, completeness: f64) -> Settings {
+    let p = oracle::param_small_case(completeness, proof_size);
+    Settings {
+        set_size,
+        proof_size: p.proof_size,
+        max_retries: p.max_retries,
+        search_width: p.search_width,
+        dfs_bound: p.dfs_bound,
+        q: p.valid_proof_probability,
+    }
+}
+
+/// The step count, and the proof or the number. Like the Rust's routine it doesn't look whether there are enough elements.
+pub fn search<E: AsRef<[u8]> + Clone>(s: &Settings, elements: &[Element<E>]) -> (u64, Result<ProofOf<E>, u32>) {
+    let (steps, answer) = ProofOf::bench(s.set_size, &params(s), elements);
+    (steps, answer.map_err(number_of))
+}
+
+/// The number of the Rust's prover as its users call it.
+pub fn prove<E: AsRef<[u8]> + Clone>(s: &Settings, elements: &[Element<E>]) -> u32 {
+    let answer: Result<ProofOf<E>, _> = Telescope::setup_unsafe(s.set_size, &params(s)).prove(elements);
+    answer.map_or_else(number_of, |_| 0)
+}
+
+pub fn verify<E: AsRef<[u8]> + Clone>(s: &Settings, proof: &ProofOf<E>) -> u32 {
+    match Telescope::setup_unsafe(s.set_size, &params(s)).verify(proof) {
+        Ok(()) => 0,
+        Err(VerificationError::IncorrectNumberElements) => ffi::WRONG_NUMBER,
+        Err(VerificationError::InvalidParameters) => ffi::INVALID_PARAMETERS,
+        Err(VerificationError::InvalidProof) => ffi::INVALID_PROOF,
+        Err(other) => panic!("the Rust's verifier says {other:?}, which only its lottery can"),
+    }
+}
+
+fn number_of(error: ProofGenerationError) -> u32 {
+    match error {
+        ProofGenerationError::NotEnoughElements => ffi::NOT_ENOUGH,
+        ProofGenerationError::NotFoundInBounds => ffi::NOT_FOUND_IN_BOUNDS,
+        ProofGenerationError::NotFound => ffi::NOT_FOUND,
+        other => panic!("the Rust's prover says {other:?}, which only its lottery can"),
+    }
+}
