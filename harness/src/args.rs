@@ -1,9 +1,12 @@
 //! The command line.
 
-use std::time::{SystemTime, UNIX_EPOCH};
+use std::time::{Duration, SystemTime, UNIX_EPOCH};
 
 pub const HELP: &str = "\
 usage: harness compare [--cases N] [--seed S]
+       harness load --minutes N | --seconds N [--seed S] [--threads T]
+       harness load --turn N --seed S
+       harness answers [--seed S]
        harness bench
        harness stack
        harness --help
@@ -18,6 +21,18 @@ compare   Runs the verified library and the original Rust on the same inputs and
 
           It uses all processors for the searches; what is run doesn't depend on how many there are.
 
+load      Compares them for as long as asked, on settings and lists from the whole of the specification's domain and on bad input,
+          each kind in its turn. Every ten seconds a line says how far it is; it ends with a table of the answers, or with the first
+          case that differs and status 1.
+  --minutes N, --seconds N   how long; the turns under way are finished
+  --seed S    as above
+  --threads T (default 2)
+  --turn N    that turn of the seed's alone, as after a case that differs
+
+answers   Writes a list of cases with the original Rust's answers to standard output; the library is not asked. With the same seed
+          the list is the same, byte for byte; with the usual one it is the list in crates/vectors/data/answers.txt.
+  --seed S    decimal, or hexadecimal after 0x (default 0x43c389a516)
+
 bench     Prints a Markdown table of speeds: the library, the Rust and OpenSSL, in turns within one run.
           It needs a build with --features portable (`sha2` held to portable code) or --features bench (`sha2` as it stands).
 
@@ -29,15 +44,28 @@ pub struct Compare {
     pub seed: u64,
 }
 
+pub struct Load {
+    pub time: Duration,
+    pub seed: u64,
+    pub threads: usize,
+    /// One turn alone, however long it takes.
+    pub turn: Option<u64>,
+}
+
 pub enum Command {
     Help,
     Compare(Compare),
+    Load(Load),
+    /// With this seed.
+    Answers(u64),
     /// Whole, or the rows for one of OpenSSL's other settings, for which the benchmark starts itself again.
     Bench(Option<usize>),
     /// Whole, or the one search of a length, for which the measurement starts itself again.
     Stack(Option<u64>),
 }
 
+/// The seed of the stored answers: the commit of the source.
+const STORED: u64 = 0x43_c389_a516;
 /// The word before the setting's number when the benchmark starts itself again.
 pub const AGAIN: &str = "--openssl-setting";
 /// The word before the length of the search when the measurement of the stack starts itself again.
@@ -46,6 +74,8 @@ pub const SEARCH: &str = "--search";
 pub fn parse(mut words: impl Iterator<Item = String>) -> Result<Command, String> {
     match words.next().as_deref() {
         Some("compare") => compare(words).map(Command::Compare),
+        Some("load") => load(words).map(Command::Load),
+        Some("answers") => answers(words).map(Command::Answers),
         Some("bench") => match words.next().as_deref() {
             None => Ok(Command::Bench(None)),
             Some(AGAIN) => Ok(Command::Bench(words.next().and_then(|word| word.parse().ok()))),
@@ -62,18 +92,36 @@ pub fn parse(mut words: impl Iterator<Item = String>) -> Result<Command, String>
     }
 }
 
-fn compare(mut words: impl Iterator<Item = String>) -> Result<Compare, String> {
-    let mut options = Compare { cases: 2_000_000, seed: from_clock() };
-    while let Some(word) = words.next() {
-        let place = match word.as_str() {
-            "--cases" => &mut options.cases,
-            "--seed" => &mut options.seed,
-            _ => return Err(format!("compare has no `{word}`")),
-        };
-        let value = words.next().ok_or(format!("{word} wants a number"))?;
-        *place = number(&value).ok_or(format!("`{value}` is no number of 64 bits"))?;
+fn compare(words: impl Iterator<Item = String>) -> Result<Compare, String> {
+    let [cases, seed] = numbers("compare", words, [("--cases", 2_000_000), ("--seed", from_clock())])?;
+    Ok(Compare { cases, seed })
+}
+
+fn load(words: impl Iterator<Item = String>) -> Result<Load, String> {
+    let any_turn = u64::MAX;
+    let options = [("--minutes", 0), ("--seconds", 0), ("--seed", from_clock()), ("--threads", 2), ("--turn", any_turn)];
+    let [minutes, seconds, seed, threads, turn] = numbers("load", words, options)?;
+    let time = Duration::from_secs(minutes.saturating_mul(60).saturating_add(seconds));
+    if turn == any_turn && time.is_zero() {
+        return Err("load wants --minutes or --seconds".to_string());
     }
-    Ok(options)
+    Ok(Load { time, seed, threads: threads.clamp(1, 64) as usize, turn: (turn != any_turn).then_some(turn) })
+}
+
+/// The numbers after these words, or those given here.
+fn numbers<const N: usize>(command: &str, mut words: impl Iterator<Item = String>, options: [(&str, u64); N]) -> Result<[u64; N], String> {
+    let mut values = options.map(|option| option.1);
+    while let Some(word) = words.next() {
+        let place = options.iter().position(|option| option.0 == word).ok_or(format!("{command} has no `{word}`"))?;
+        let value = words.next().ok_or(format!("{word} wants a number"))?;
+        values[place] = number(&value).ok_or(format!("`{value}` is no number of 64 bits"))?;
+    }
+    Ok(values)
+}
+
+fn answers(words: impl Iterator<Item = String>) -> Result<u64, String> {
+    let [seed] = numbers("answers", words, [("--seed", STORED)])?;
+    Ok(seed)
 }
 
 fn number(text: &str) -> Option<u64> {

@@ -3,75 +3,30 @@
 //! Nothing checks these declarations against the library, so they are few, and on numbers and bytes alone. A slice passes as a pointer
 //! and then a length. No call has a precondition: whatever is lent, the answer is one of the numbers named here.
 
+#[rustfmt::skip]
 extern "C" {
     fn alba_sample_uniform(h: *const u8, h_len: usize, n: u64, out: *mut u8, out_len: usize) -> u32;
     fn alba_sample_bernoulli(h: *const u8, h_len: usize, q: f64) -> u32;
     fn alba_small_case(u: u64, c: f64, out: *mut u64, out_len: usize) -> u32;
-    #[rustfmt::skip]
     fn alba_sha256(
-        a: *const u8,
-        a_len: usize,
-        b: *const u8,
-        b_len: usize,
-        c: *const u8,
-        c_len: usize,
-        d: *const u8,
-        d_len: usize,
-        out: *mut u8,
-        out_len: usize,
+        a: *const u8, a_len: usize, b: *const u8, b_len: usize, c: *const u8, c_len: usize, d: *const u8, d_len: usize,
+        out: *mut u8, out_len: usize,
     ) -> u32;
-    #[rustfmt::skip]
     fn alba_check_distinct(
-        data: *const u8,
-        data_len: usize,
-        ends: *const u32,
-        ends_len: usize,
-        marks: *const u8,
-        marks_len: usize,
-        indexes: *const u64,
-        indexes_len: usize,
+        data: *const u8, data_len: usize, ends: *const u32, ends_len: usize,
+        marks: *const u8, marks_len: usize, indexes: *const u64, indexes_len: usize,
     ) -> u32;
-    #[rustfmt::skip]
     fn alba_prove(
-        set_size: u64,
-        proof_size: u64,
-        max_retries: u64,
-        search_width: u64,
-        dfs_bound: u64,
-        q: f64,
-        data: *const u8,
-        data_len: usize,
-        ends: *const u32,
-        ends_len: usize,
-        marks: *const u8,
-        marks_len: usize,
-        indexes: *const u64,
-        indexes_len: usize,
-        places: *mut u32,
-        places_len: usize,
-        bins: *mut u32,
-        bins_len: usize,
-        out: *mut u64,
-        out_len: usize,
+        set_size: u64, proof_size: u64, max_retries: u64, search_width: u64, dfs_bound: u64, q: f64,
+        data: *const u8, data_len: usize, ends: *const u32, ends_len: usize,
+        marks: *const u8, marks_len: usize, indexes: *const u64, indexes_len: usize,
+        places: *mut u32, places_len: usize, bins: *mut u32, bins_len: usize, out: *mut u64, out_len: usize,
     ) -> u32;
-    #[rustfmt::skip]
     fn alba_verify(
-        set_size: u64,
-        proof_size: u64,
-        max_retries: u64,
-        search_width: u64,
-        dfs_bound: u64,
-        q: f64,
-        retry_counter: u64,
-        search_counter: u64,
-        data: *const u8,
-        data_len: usize,
-        ends: *const u8,
-        ends_len: usize,
-        marks: *const u8,
-        marks_len: usize,
-        indexes: *const u8,
-        indexes_len: usize,
+        set_size: u64, proof_size: u64, max_retries: u64, search_width: u64, dfs_bound: u64, q: f64,
+        retry_counter: u64, search_counter: u64,
+        data: *const u8, data_len: usize, ends: *const u8, ends_len: usize,
+        marks: *const u8, marks_len: usize, indexes: *const u8, indexes_len: usize,
     ) -> u32;
 }
 
@@ -149,7 +104,7 @@ pub struct Settings {
     pub q: f64,
 }
 
-/// A list of elements as it is lent: to the prover with ends and indexes as numbers, to the verifier with both in big-endian bytes.
+/// A list of elements as it is lent: with ends and indexes as numbers, or to the verifier with both in big-endian bytes.
 #[derive(Clone, Copy)]
 pub struct Listed<'a, End, Index> {
     pub data: Lent<'a>,
@@ -183,26 +138,18 @@ pub fn sha256(strings: [Lent; 4], out: &mut (impl Place + ?Sized)) -> u32 {
 
 /// `BAD_LENGTH` (out not of five numbers), then `BAD_U`, then `BAD_C`, `out` untouched in each; or 0 with proof_size, max_retries,
 /// search_width, dfs_bound and the bits of q in `out`.
-pub fn small_case(u: u64, c: f64, out: &mut [u64]) -> u32 {
-    // SAFETY: the pointer is valid for reads and writes of its length.
-    unsafe { alba_small_case(u, c, out.as_mut_ptr(), out.len()) }
+pub fn small_case(u: u64, c: f64, out: &mut (impl Place<u64> + ?Sized)) -> u32 {
+    let (out, out_len) = out.parts();
+    // SAFETY: the pointer is valid for writes of its length.
+    unsafe { alba_small_case(u, c, out, out_len) }
 }
 
-/// `MALFORMED`, then `TOO_LARGE`, otherwise 0 for a list in which no two elements have equal data bytes and `REPEATED` for another.
-pub fn check_distinct(data: &[u8], ends: &[u32], marks: &[u8], indexes: &[u64]) -> u32 {
+/// `BAD_LIST`, then `TOO_LARGE`, otherwise 0 for a list in which no two elements have equal data bytes and `REPEATED` for another.
+pub fn check_distinct(list: Listed<u32, u64>) -> u32 {
+    let ((data, data_len), (ends, ends_len)) = (parts(list.data), parts(list.ends));
+    let ((marks, marks_len), (indexes, indexes_len)) = (parts(list.marks), parts(list.indexes));
     // SAFETY: each pointer is valid for reads of its length.
-    unsafe {
-        alba_check_distinct(
-            data.as_ptr(),
-            data.len(),
-            ends.as_ptr(),
-            ends.len(),
-            marks.as_ptr(),
-            marks.len(),
-            indexes.as_ptr(),
-            indexes.len(),
-        )
-    }
+    unsafe { alba_check_distinct(data, data_len, ends, ends_len, marks, marks_len, indexes, indexes_len) }
 }
 
 /// 0, or the number of the refusal or of a search that found nothing. If `out` has three numbers or more, the first three take R, S

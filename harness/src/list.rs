@@ -36,6 +36,12 @@ impl List {
         self.indexes.push(index.unwrap_or(unread));
     }
 
+    /// Adds an element like the one at a place of a lawful list.
+    pub fn repeat(&mut self, place: usize, unread: u64) {
+        let (data, index) = (self.data_of(place).to_vec(), self.index_of(place));
+        self.push(&data, index, unread);
+    }
+
     pub fn len(&self) -> usize {
         self.ends.len()
     }

@@ -1,11 +1,14 @@
-//! Compares the verified library with the Rust that it is made from (`compare`), and measures both (`bench`, `stack`).
+//! Compares the verified library with the Rust that it is made from (`compare`, `load`), stores answers of the Rust (`answers`), and
+//! measures both (`bench`, `stack`).
 
+mod answers;
 mod args;
 #[cfg(feature = "bench")]
 mod bench;
 mod compare;
 mod ffi;
 mod list;
+mod load;
 mod original;
 mod rng;
 mod stack;
@@ -40,6 +43,8 @@ fn main() -> ExitCode {
             Ok(())
         }
         Command::Compare(options) => compare::run(&options),
+        Command::Load(options) => load::run(&options),
+        Command::Answers(seed) => answers::run(seed),
         Command::Bench(setting) => bench::run(setting),
         Command::Stack(depth) => stack::run(depth),
     };

@@ -3,40 +3,20 @@ use mathlib.Core.Path.{_≡_, refl, ap, sym, _∙_, subst}
 use mathlib.Core.Logic.{inr}
 use mathlib.Core.List.{List, [], _∷_, _++_, map}
 use Prim.Native.Nat.{ℕ, _+_, _*_, _<_}
-use borrow.Author.Tests.{le-ltb, eq-eqb}
-use lib.ListN.{length, take}
+use lib.ListN.{length, take, length-map}
 use lib.Seq.{take-at}
 use Rattle.centralized_telescope.specs.declared.params.Params.{Params}
-use Rattle.centralized_telescope.specs.Params.{checked}
-use Rattle.centralized_telescope.specs.Elements.{Element, elements, elementAt, listCheck}
+use Rattle.centralized_telescope.specs.Elements.{Element, elements, elementAt}
 use Rattle.centralized_telescope.specs.ElementsLaws.{at-kept}
 use Rattle.centralized_telescope.specs.Lists.{Each}
-use Rattle.centralized_telescope.specs.ListsLaws.{length-map, each-head, each-rest, number-passed, number-last}
+use Rattle.centralized_telescope.specs.ListsLaws.{each-head, each-rest}
 use Rattle.centralized_telescope.specs.Chains.{tryOf, Chain, ElementsPass, elementsOf, Passes}
 use Rattle.centralized_telescope.specs.Search.{searched}
-use Rattle.centralized_telescope.specs.Prover.{Proved, served, proverRefusal, proved, tableAfter}
-use Rattle.centralized_telescope.specs.Verifier.{verdict}
-use Rattle.centralized_telescope.specs.Demand3.{Served, OfProver, OfVerifier, OnTheProof, proofElements, demand3}
+use Rattle.centralized_telescope.specs.Prover.{Proved, served, proved, tableAfter}
+use Rattle.centralized_telescope.specs.Demand3.{OfProver, OfVerifier, OnTheProof, proofElements, demand3}
+use Rattle.centralized_telescope.proofs.ProveAnswers.{all-served}
 use Rattle.centralized_telescope.proofs.VerifierDemand.{verdict-so}
 use Rattle.centralized_telescope.proofs.ProverDemand.{prover-so}
-
--- ---- what is served is not refused
-
-module _ (p : Params) (bytes ends marks indexes places table : List ℕ) (S : Served p bytes ends marks indexes places table) where
-  not-refused : proverRefusal p bytes ends marks indexes places table ≡ 0
-  unfolding proverRefusal
-  not-refused =
-      number-passed (checked p .0) _ (S .settings)
-      ∙ number-passed (listCheck bytes ends marks indexes) _ (S .list)
-      ∙ rw (
-        le-ltb (length places) (p .«proof_size») (S .places-enough),
-        le-ltb (length table) (3 * p .«set_size» + 1) (S .table-enough),
-        le-ltb (length ends) (p .«set_size») (S .at-least),
-      ) (number-passed 0 (0 ∷ []) refl ∙ number-last 0)
-
-  proved-is : proved p bytes ends marks indexes places table ≡ served p (elements bytes ends marks indexes) places table
-  unfolding proved
-  proved-is = rw (eq-eqb (proverRefusal p bytes ends marks indexes places table) 0 not-refused)
 
 -- ---- the elements at a chain's places
 
@@ -49,7 +29,7 @@ map-kept k es (place ∷ ps) e =
 
 module _ (p : Params) (es : List Element) (R : ℕ) (c : Chain) (w : Passes (tryOf p es R) c) where
   chain-passes : ElementsPass p R (c .search) (elementsOf (tryOf p es R) c)
-  chain-passes = (length-map (elementAt (take (2 * p .«set_size») es)) (c .places) ∙ w .exactly, (c .last, w .exists .rounds, w .yes))
+  chain-passes = (length-map (c .places) (elementAt (take (2 * p .«set_size») es)) ∙ w .exactly, (c .last, w .exists .rounds, w .yes))
 
   written-out : (old : List ℕ) → map (elementAt es) (take (p .«proof_size») (c .places ++ old)) ≡ elementsOf (tryOf p es R) c
   written-out old =
@@ -77,7 +57,7 @@ pub demand-3 : demand3
 unfolding served
 demand-3 p bytes ends marks indexes places table S =
     let es : List Element = elements bytes ends marks indexes in
-    let is = proved-is p bytes ends marks indexes places table S in
+    let is = all-served p bytes ends marks indexes places table (S .settings) (S .list) (S .places-enough) (S .table-enough) (S .at-least) in
     let of-prover : OfProver p es places (proved p bytes ends marks indexes places table) =
     subst (OfProver p es places) (sym is) (prover-so p es places (tableAfter p es (searched p es .made) table)) in
     record {

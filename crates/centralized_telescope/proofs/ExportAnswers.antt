@@ -1,5 +1,5 @@
 -- The exported verdict by its tests, in the table's order: e and k are the bytes of ends and indexes.
-use mathlib.Core.Path.{_≡_, ap, sym, _∙_}
+use mathlib.Core.Path.{_≡_, refl, ap, sym, _∙_}
 use mathlib.Core.Bool.{Bool, true, false, cond, _&&_}
 use mathlib.Core.List.{List, [], _∷_, _++_}
 use Prim.Native.Nat.{ℕ, _/_, _%_, _≤_, _<_}
@@ -11,6 +11,7 @@ use Rattle.centralized_telescope.specs.declared.params.Params.{Params}
 use Rattle.centralized_telescope.specs.Elements.{elements, listCheck}
 use Rattle.centralized_telescope.specs.ElementsLaws.{length-elements, same-marks, same-indexes}
 use Rattle.centralized_telescope.specs.Lists.{firstNumber}
+use Rattle.centralized_telescope.specs.ListsLaws.{number-met, second-met}
 use Rattle.centralized_telescope.specs.Params.{checked}
 use Rattle.centralized_telescope.specs.ParamsLaws.{lawful}
 use Rattle.centralized_telescope.specs.Verifier.{judged, verdict}
@@ -36,21 +37,24 @@ module _ (d e m k : List ℕ) (A : listCheck d (numbersOf 4 e) m (numbersOf 8 k)
 
 module _ (p : Params) (R S : ℕ) (d e m k : List ℕ) where
   pub bytes-settings-refused : (r : ℕ) → r ≡ checked p .0 → (r ≡ 0 → ⊥) → r ≡ exportedVerdict p R S d e m k
-  unfolding exportedVerdict firstNumber
+  unfolding exportedVerdict
   bytes-settings-refused r c z = go (isWholeCount 4 e && isWholeCount 8 k)
     where
       go : (t : Bool) → r ≡ cond t (verdict p R S d (numbersOf 4 e) m (numbersOf 8 k)) (firstNumber (checked p .0 ∷ 4 ∷ []))
       go true = settings-refused p R S d (numbersOf 4 e) m (numbersOf 8 k) r c z
-      go false = rw (← c, ne-eqb r 0 z)
+      go false = sym (number-met (checked p .0) (4 ∷ []) r (sym c) z)
 
   module _ (P : checked p .0 ≡ 0) where
+    malformed : 4 ≡ firstNumber (checked p .0 ∷ 4 ∷ [])
+    malformed = sym (second-met (checked p .0) 4 [] 4 P refl (λ z. omega arith))
+
     pub ends-not-whole : (length e % 4 ≡ 0 → ⊥) → 4 ≡ exportedVerdict p R S d e m k
-    unfolding exportedVerdict firstNumber
-    ends-not-whole n = rw (ne-eqb (length e % 4) 0 n, P)
+    unfolding exportedVerdict
+    ends-not-whole n = rw (ne-eqb (length e % 4) 0 n) malformed
 
     pub indexes-not-whole : length e % 4 ≡ 0 → (length k % 8 ≡ 0 → ⊥) → 4 ≡ exportedVerdict p R S d e m k
-    unfolding exportedVerdict firstNumber
-    indexes-not-whole E n = rw (eq-eqb (length e % 4) 0 E, ne-eqb (length k % 8) 0 n, P)
+    unfolding exportedVerdict
+    indexes-not-whole E n = rw (eq-eqb (length e % 4) 0 E, ne-eqb (length k % 8) 0 n) malformed
 
   pub whole-counts : length e % 4 ≡ 0 → length k % 8 ≡ 0
       → verdict p R S d (numbersOf 4 e) m (numbersOf 8 k) ≡ exportedVerdict p R S d e m k

@@ -12,7 +12,6 @@ mod RoundHashes
 mod BinCounting
 mod BinPlacing
 mod BinBuilding
-mod Copying
 mod TableFacts
 mod Measure
 mod Walked
@@ -23,8 +22,8 @@ mod ManyTries
 mod ProveAnswers
 mod ProofWriting
 mod ProofAnswers
-mod Repeats
-mod BucketsDecide
+mod Merging
+mod Halves
 mod DistinctAnswers
 mod ChainFollowed
 mod VerdictAnswers

@@ -9,22 +9,7 @@ use borrow.Author.Tests.{lt-ltb, le-ltb}
 use lib.Dec.{ltb}
 use lib.ListN.{length, getD, drop, drop-of-length-le}
 use lib.Seq.{drop-cons}
-use Rattle.centralized_telescope.specs.Elements.{markOver, endWrong, dataLong}
-
--- ---- marks
-
-module _ (ms : List ℕ) (i : ℕ) where
-  pub mark-here : i < length ms → 1 < getD ms i 0 → markOver (drop i ms) ≡ true
-  unfolding markOver
-  mark-here h t = rw (drop-cons ms i 0 h, lt-ltb 1 (getD ms i 0) t)
-
-  pub mark-behind : i < length ms → getD ms i 0 ≤ 1 → markOver (drop i ms) ≡ markOver (drop (i + 1) ms)
-  unfolding markOver
-  mark-behind h t = rw (add-one, drop-cons ms i 0 h, le-ltb 1 (getD ms i 0) t)
-
-  pub marks-done : length ms ≤ i → markOver (drop i ms) ≡ false
-  unfolding markOver
-  marks-done h = rw (drop-of-length-le ms {i = i} h)
+use Rattle.centralized_telescope.specs.Elements.{endWrong, dataLong}
 
 -- ---- ends: `from` is the end before the place i, x the one at i
 

@@ -13,6 +13,7 @@ use Rattle.centralized_telescope.specs.declared.proof.Attempt.{Attempt}
 use Rattle.centralized_telescope.specs.declared.proof.Attempt.the-variants as attempt
 use Rattle.centralized_telescope.specs.declared.proof.ProofSearch.the-variants as answer
 use Rattle.centralized_telescope.specs.declared.round.SearchCounter.{SearchCounter}
+use Rattle.centralized_telescope.specs.Lists.{over}
 use Rattle.centralized_telescope.specs.Params.{checked}
 use Rattle.centralized_telescope.specs.Elements.{Element, listCheck}
 use Rattle.centralized_telescope.specs.Bins.{tableOf, binTable}
@@ -77,52 +78,70 @@ module _ (p : Params) (es : List Element) where
   unfolding served
   ends-served s e places table = rw e
 
-  module _ (w v R sum : ℕ) (ew : w ≡ suc v) (inv : searched p es ≡ triesFrom p es w R sum) (o : Attempt) (last mid old : List ℕ) (em : mid ≡ old)
-      (said : (o ≡ attemptOf (it (next R))) × (last ≡ written (it (next R)) mid)) where
-    opened : searched p es ≡ unlessFound (tryFinds (next R)) (R + 1) (sum + tryCount (next R)) (triesFrom p es v (R + 1) (sum + tryCount (next R)))
-    unfolding triesFrom
-    opened = inv ∙ rw ew
-
-    pub all-missing : (t : ℕ) → o ≡ attempt.Missing t → (searched p es ≡ triesFrom p es v (R + 1) (sum + t)) × (last ≡ old) × (t ≤ p .«dfs_bound»)
-    unfolding unlessFound written
-    all-missing t e =
-        let m : it (next R) ≡ missing t = missing-try (it (next R)) t (sym e ∙ said .0) in
-        let none-found : tryFinds (next R) ≡ none = sym (finds-is (next R)) ∙ ap find m in
-        let counts : tryCount (next R) ≡ t = sym (count-is (next R)) ∙ ap counted m in (
-          opened ∙ rw (none-found, counts),
-          said .1 ∙ ap (λ (r : Ended Chain). written r mid) m ∙ em,
-          rw m at (try-within (next R)),
-        )
-
-    pub found-within : (S : SearchCounter) (t : ℕ) → o ≡ attempt.Found S t → t ≤ p .«dfs_bound»
-    found-within S t e =
-        let f = found-try (it (next R)) S t (sym e ∙ said .0) in
-        rw (f .1) at (try-within (next R))
-
-    pub all-found : (S : SearchCounter) (t : ℕ) → o ≡ attempt.Found S t → (now lent : List ℕ) → now ≡ tableAfter p es (R + 1) lent
-        → provedBy (answer.Found (record { 0 = R + 1 }) S (sum + t)) last now ≡ served p es old lent
-    unfolding unlessFound written answered
-    all-found S t e now lent et =
-        let f = found-try (it (next R)) S t (sym e ∙ said .0) in
-        let finds : tryFinds (next R) ≡ some (f .0) = sym (finds-is (next R)) ∙ ap find (f .1) in
-        let counts : tryCount (next R) ≡ t = sym (count-is (next R)) ∙ ap counted (f .1) in
-        let ends : searched p es ≡ record { made = R + 1; count = sum + t; proof = some (f .0) } = opened ∙ rw (finds, counts) in
-        let places = said .1 ∙ ap (λ (r : Ended Chain). written r mid) (f .1) in
-        rw (et, f .2, places, em) (ends-served _ ends old lent)
+  found-served : (R : ℕ) (S : SearchCounter) (n : ℕ) (c : Chain) (now lent old : List ℕ) → S .0 ≡ c .search → now ≡ tableAfter p es (R + 1) lent
+      → searched p es ≡ record { made = R + 1; count = n; proof = some c }
+      → provedBy (answer.Found (record { 0 = R + 1 }) S n) (over (c .places) old) now ≡ served p es old lent
+  unfolding answered
+  found-served R S n c now lent old q et ends = rw (et, q) (ends-served _ ends old lent)
 
   module _ (w R sum : ℕ) (ew : w ≡ 0) (inv : searched p es ≡ triesFrom p es w R sum) (now lent last old : List ℕ) (et : now ≡ tableAfter p es R lent)
       (ep : last ≡ old) where
-    over : searched p es ≡ record { made = R; count = sum; proof = none }
+    all-made : searched p es ≡ record { made = R; count = sum; proof = none }
     unfolding triesFrom
-    over = inv ∙ rw ew
+    all-made = inv ∙ rw ew
 
     pub not-in-bounds : p .«dfs_bound» ≤ sum → provedBy (answer.NotFoundInBounds sum) last now ≡ served p es old lent
     unfolding answered
-    not-in-bounds l = rw (et, ep) (rw (le-leb (p .«dfs_bound») sum l) at (ends-served _ over old lent))
+    not-in-bounds l = rw (et, ep) (rw (le-leb (p .«dfs_bound») sum l) at (ends-served _ all-made old lent))
 
     pub not-found : sum < p .«dfs_bound» → provedBy (answer.NotFound sum) last now ≡ served p es old lent
     unfolding answered
-    not-found l = rw (et, ep) (rw (lt-leb (p .«dfs_bound») sum l) at (ends-served _ over old lent))
+    not-found l = rw (et, ep) (rw (lt-leb (p .«dfs_bound») sum l) at (ends-served _ all-made old lent))
+
+-- what is known when a try is made, with v tries behind it: o is its answer, last are the lent places then, mid before it, old at first
+pub record Attempted (p : Params) (es : List Element) (v R sum : ℕ) (o : Attempt) (last mid old : List ℕ) : Type 0 where
+  pub still : searched p es ≡ triesFrom p es (suc v) R sum
+  pub answer-is : o ≡ attemptOf (it (tryOf p es (R + 1)))
+  pub places-are : last ≡ written (it (tryOf p es (R + 1))) mid
+  pub as-lent : mid ≡ old
+
+module _ {p : Params} {es : List Element} {v R sum : ℕ} {o : Attempt} {last mid old : List ℕ} (k : Attempted p es v R sum o last mid old) where
+  abbrev now-made : Try
+  now-made = tryOf p es (R + 1)
+
+  opened : searched p es ≡ unlessFound (tryFinds now-made) (R + 1) (sum + tryCount now-made) (triesFrom p es v (R + 1) (sum + tryCount now-made))
+  unfolding triesFrom
+  opened = k .still
+
+  pub all-missing : (t : ℕ) → o ≡ attempt.Missing t → (searched p es ≡ triesFrom p es v (R + 1) (sum + t)) × (last ≡ old) × (t ≤ p .«dfs_bound»)
+  unfolding unlessFound written
+  all-missing t e =
+      let m : it now-made ≡ missing t = missing-try (it now-made) t (sym e ∙ k .answer-is) in
+      let none-found : tryFinds now-made ≡ none = sym (finds-is now-made) ∙ ap find m in
+      let counts : tryCount now-made ≡ t = sym (count-is now-made) ∙ ap counted m in (
+        opened ∙ rw (none-found, counts),
+        k .places-are ∙ ap (λ (r : Ended Chain). written r mid) m ∙ k .as-lent,
+        rw m at (try-within now-made),
+      )
+
+  module _ (S : SearchCounter) (t : ℕ) (e : o ≡ attempt.Found S t) where
+    caught : (c : Chain) × (it now-made ≡ found t c) × (S .0 ≡ c .search)
+    caught = found-try (it now-made) S t (sym e ∙ k .answer-is)
+
+    pub found-within : t ≤ p .«dfs_bound»
+    found-within = rw (caught .1) at (try-within now-made)
+
+    pub all-found : (now lent : List ℕ) → now ≡ tableAfter p es (R + 1) lent
+        → provedBy (answer.Found (record { 0 = R + 1 }) S (sum + t)) last now ≡ served p es old lent
+    unfolding unlessFound written
+    all-found now lent et =
+        let finds : tryFinds now-made ≡ some (caught .0) = sym (finds-is now-made) ∙ ap find (caught .1) in
+        let counts : tryCount now-made ≡ t = sym (count-is now-made) ∙ ap counted (caught .1) in
+        let ends : searched p es ≡ record { made = R + 1; count = sum + t; proof = some (caught .0) } = opened ∙ rw (finds, counts) in
+        let places : last ≡ written (found t (caught .0)) old =
+        k .places-are ∙ ap (λ (r : Ended Chain). written r mid) (caught .1) ∙ ap (written (found t (caught .0))) (k .as-lent) in
+        ap (λ (l : List ℕ). provedBy (answer.Found (record { 0 = R + 1 }) S (sum + t)) l now) places
+        ∙ found-served p es R S (sum + t) (caught .0) now lent old (caught .2) et ends
 
 -- a table that was just filled is ready to be searched
 pub filled-ready : (p : Params) (X : ℕ) (bytes ends marks indexes : List ℕ) (R : ℕ) (table lent : List ℕ) (room : ℕ) → checked p ≡ (0, X)

@@ -6,7 +6,8 @@ use native.Mathlib.Nat.{pow-suc, pow-le-pow-right, mul-zero, mul-suc, add-comm}
 use native.Mathlib.Numerals.{add-one}
 use native.Mathlib.Omega.{arith}
 use lib.ListN.{length, take, drop, getD, set}
-use lib.Seq.{getD-drop, drop-drop, take-all, take-suc, take-suc-set}
+use lib.Seq.{getD-drop, drop-drop, take-all, take-suc}
+use Rattle.sampling.specs.CommonLaws.{filled-more}
 use Rattle.sampling.specs.BigEndian.{bigEndian}
 use Rattle.centralized_telescope.specs.Exports.{numbersIn}
 
@@ -44,7 +45,7 @@ number-at (suc n) k bytes (suc i) h = number-at n k (drop k bytes) i (omega arit
 -- one more is written
 pub one-read : (ns out : List ℕ) (i v : ℕ) → i < length ns → length out ≡ length ns → v ≡ getD ns i 0 → take i out ≡ take i ns
     → take (i + 1) (set out i v) ≡ take (i + 1) ns
-one-read ns out i v h l e t = rw (add-one i, take-suc-set out i v (omega arith), take-suc ns i 0 h, e, t)
+one-read ns out i v h l e t = filled-more out (take i ns) i v (omega arith) t ∙ rw (e, add-one i, take-suc ns i 0 h)
 
 -- all are written
 pub all-read : (ns out : List ℕ) (i : ℕ) → length out ≤ i → length out ≡ length ns → take i out ≡ take i ns → out ≡ ns

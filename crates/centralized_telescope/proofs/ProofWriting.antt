@@ -1,19 +1,20 @@
 -- Writing a proof out: the places and their data looked at from the front, and one element more written behind those that are.
 use mathlib.Core.Path.{_≡_, refl, sym, ap, _∙_}
-use mathlib.Core.Bool.{true, false}
+use mathlib.Core.Bool.{false}
 use mathlib.Core.List.{List, [], _∷_, _++_, map, append-assoc, append-nil, map-append}
 use Prim.Native.Nat.{ℕ, zero, suc, _+_, _-_, _≤_, _<_}
 use native.Mathlib.Numerals.{add-one}
 use native.Mathlib.Omega.{arith}
-use borrow.Author.Tests.{le-leb, lt-leb, eq-eqb, ne-eqb, ltb-false}
+use borrow.Author.Tests.{eq-eqb, ne-eqb, ltb-false}
 use lib.Dec.{ltb}
-use lib.ListN.{length, getD, take, drop, set, length-append, length-drop, drop-of-length-le}
-use lib.Seq.{drop-cons, take-suc, length-take-le, take-at, drop-append-add, drop-drop, set-at, take-all}
+use lib.ListN.{length, getD, take, drop, set, length-append, length-drop, length-map, drop-of-length-le}
+use lib.Seq.{drop-cons, length-take-le, take-at, drop-append-add, drop-drop, take-all}
 use Rattle.centralized_telescope.specs.Elements.{Element, elementAt, elements, dataAt, indexAt, indexOf, markOf, numberOf, listCheck}
 use Rattle.centralized_telescope.specs.ElementsLaws.{data-there, data-short, index-there}
-use Rattle.centralized_telescope.specs.WrittenOut.{placeOut, dataOf, joined, endsFrom, marksOf, indexesOf, chosen, over, WrittenOut, wrote, written, buffersShort}
-use Rattle.centralized_telescope.specs.ListsLaws.{length-map}
-use Rattle.centralized_telescope.specs.ParamsLaws.{neither}
+use Rattle.centralized_telescope.specs.WrittenOut.{placeOut, dataOf, joined, endsFrom, marksOf, indexesOf, chosen, WrittenOut, wrote, written, buffersShort}
+use Rattle.centralized_telescope.specs.TestLaws.{neither}
+use Rattle.centralized_telescope.specs.Lists.{over}
+use Rattle.centralized_telescope.specs.ListsLaws.{map-more, over-set}
 use Rattle.centralized_telescope.specs.WrittenOutLaws.{length-ends, place-within}
 
 -- ---- an index as it is lent
@@ -23,21 +24,6 @@ mark-none mark v k = rw (ne-eqb mark 1 k) (refl, refl)
 
 pub mark-one : (mark v : ℕ) → mark ≡ 1 → (1 ≡ markOf (indexOf mark v)) × (v ≡ numberOf (indexOf mark v))
 mark-one mark v k = rw (eq-eqb mark 1 k) (refl, refl)
-
--- ---- places past the list: what one place settles, and what it leaves to those behind it
-
-module _ (ps : List ℕ) (i len : ℕ) where
-  pub place-here : i < length ps → len ≤ getD ps i 0 → placeOut len (drop i ps) ≡ true
-  unfolding placeOut
-  place-here h t = rw (drop-cons ps i 0 h, le-leb len (getD ps i 0) t)
-
-  pub place-behind : i < length ps → getD ps i 0 < len → placeOut len (drop i ps) ≡ placeOut len (drop (i + 1) ps)
-  unfolding placeOut
-  place-behind h t = rw (add-one, drop-cons ps i 0 h, lt-leb len (getD ps i 0) t)
-
-  pub places-done : length ps ≤ i → placeOut len (drop i ps) ≡ false
-  unfolding placeOut
-  places-done h = rw (drop-of-length-le ps {i = i} h)
 
 -- ---- the data of the elements at the places behind
 
@@ -77,9 +63,9 @@ pub record Rooms (count size bytes ends marks indexes : ℕ) : Type 0 where
 pub rooms : (count size bytes ends marks indexes : ℕ) → buffersShort count size bytes ends marks indexes ≡ false → Rooms count size bytes ends marks indexes
 unfolding buffersShort
 rooms count size bytes ends marks indexes h =
-    let n = neither (ltb ends count) _ h in
-    let m = neither (ltb marks count) _ (n .1) in
-    let x = neither (ltb indexes count) _ (m .1) in
+    let n = neither (ltb ends count) h in
+    let m = neither (ltb marks count) (n .1) in
+    let x = neither (ltb indexes count) (m .1) in
     record {
       ends-room = ltb-false ends count (n .0);
       marks-room = ltb-false marks count (m .0);
@@ -88,7 +74,7 @@ rooms count size bytes ends marks indexes h =
     }
 
 -- the data of one place more is within that of all
-pub data-within : (f : ℕ → Element) (ps : List ℕ) (i : ℕ) → i < length ps
+data-within : (f : ℕ → Element) (ps : List ℕ) (i : ℕ) → i < length ps
     → length (joined (map f (take i ps))) + length (f (getD ps i 0) .bytes) ≤ length (joined (map f ps))
 unfolding joined
 data-within f [] i h = absurd (omega arith)
@@ -97,9 +83,6 @@ data-within f (p ∷ ps) (suc i) h =
     omega (arith, data-within f ps i (omega arith), length-append (f p .bytes) (joined (map f ps)), length-append (f p .bytes) (joined (map f (take i ps))))
 
 -- ---- one element more
-
-chosen-more : (f : ℕ → Element) (ps : List ℕ) (i : ℕ) → i < length ps → map f (take (i + 1) ps) ≡ map f (take i ps) ++ (f (getD ps i 0) ∷ [])
-chosen-more f ps i h = rw (add-one, take-suc ps i 0 h) (map-append f (take i ps) (getD ps i 0 ∷ []))
 
 joined-more : (es : List Element) (e : Element) → joined (es ++ (e ∷ [])) ≡ joined es ++ e .bytes
 unfolding joined
@@ -117,7 +100,6 @@ ends-more from (k ∷ es) e =
     (ends-more (from + length (k .bytes)) es e ∙ ap (λ (v : ℕ). endsFrom (from + length (k .bytes)) es ++ (v ∷ [])) l)
 
 over-append : (xs ys s : List ℕ) → take (length xs) (over xs s) ++ (ys ++ drop (length xs + length ys) (over xs s)) ≡ over (xs ++ ys) s
-unfolding over
 over-append xs ys s =
     rw (
       take-at xs (drop (length xs) s) (length xs) refl,
@@ -126,12 +108,6 @@ over-append xs ys s =
       length-append xs ys,
       append-assoc xs ys,
     )
-
-over-set : (k v : ℕ) (xs s : List ℕ) → length xs ≡ k → k < length s → set (over xs s) k v ≡ over (xs ++ (v ∷ [])) s
-unfolding over
-over-set k v xs s e h =
-    let l : length xs < length s = omega arith in
-    rw (drop-cons s (length xs) 0 l, set-at xs (getD s (length xs) 0) (drop (suc (length xs)) s) v k e, length-append xs (v ∷ []), add-one, append-assoc)
 
 -- in a buffer that holds xs, the number behind them
 set-more : (k v u : ℕ) (n′ n xs ys : List ℕ) → n′ ≡ over xs n → length xs ≡ k → k < length n → v ≡ u → ys ≡ xs ++ (u ∷ []) → set n′ k v ≡ over ys n
@@ -157,14 +133,14 @@ module _ (es : List Element) (e : Element) (b n m x : List ℕ) where
       (set-more k (used + length own) (0 + length (joined es) + length (e .bytes)) n′ n (endsFrom 0 es) (endsFrom 0 (es ++ (e ∷ [])))
       (ap (λ (w : WrittenOut). w .ends) W) (length-ends 0 es ∙ K) N (omega arith) (ends-more 0 es e))
       (set-more k mark (markOf (e .index)) m′ m (marksOf es) (marksOf (es ++ (e ∷ [])))
-      (ap (λ (w : WrittenOut). w .marks) W) (length-map (λ (a : Element). markOf (a .index)) es ∙ K) M A (map-append (λ (a : Element). markOf (a .index)) es (e ∷ [])))
+      (ap (λ (w : WrittenOut). w .marks) W) (length-map es (λ (a : Element). markOf (a .index)) ∙ K) M A (map-append (λ (a : Element). markOf (a .index)) es (e ∷ [])))
       (set-more k number (numberOf (e .index)) x′ x (indexesOf es) (indexesOf (es ++ (e ∷ [])))
-      (ap (λ (w : WrittenOut). w .indexes) W) (length-map (λ (a : Element). numberOf (a .index)) es ∙ K) X I (map-append (λ (a : Element). numberOf (a .index)) es (e ∷ [])))
+      (ap (λ (w : WrittenOut). w .indexes) W) (length-map es (λ (a : Element). numberOf (a .index)) ∙ K) X I (map-append (λ (a : Element). numberOf (a .index)) es (e ∷ [])))
 
 -- ---- none is written yet, and one turn
 
 pub none-written : (b n m x : List ℕ) → wrote 0 b n m x ≡ written [] b n m x
-unfolding written joined endsFrom over
+unfolding written joined endsFrom
 none-written b n m x = refl
 
 pub one-written : (f : ℕ → Element) (ps : List ℕ) (i : ℕ) → i < length ps
@@ -175,8 +151,8 @@ pub one-written : (f : ℕ → Element) (ps : List ℕ) (i : ℕ) → i < length
     → t ≡ take used b′ ++ (own ++ drop (used + length own) b′)
     → wrote (used + length own) t (set n′ i (used + length own)) (set m′ i mark) (set x′ i number) ≡ written (map f (take (i + 1) ps)) b n m x
 one-written f ps i h b n m x used b′ n′ m′ x′ own t mark number W N M X O A I C =
-    let K : length (map f (take i ps)) ≡ i = length-map f (take i ps) ∙ length-take-le i ps (omega arith) in
-    rw (chosen-more f ps i h) (written-more (map f (take i ps)) (f (getD ps i 0)) b n m x i used b′ n′ m′ x′ own t mark number W K N M X O A I C)
+    let K : length (map f (take i ps)) ≡ i = length-map (take i ps) f ∙ length-take-le i ps (omega arith) in
+    rw (map-more f ps i 0 h) (written-more (map f (take i ps)) (f (getD ps i 0)) b n m x i used b′ n′ m′ x′ own t mark number W K N M X O A I C)
 
 -- ---- the element of a turn
 

@@ -1,7 +1,7 @@
 -- The prover's answer by the lines of the table, from the top.
-use mathlib.Core.Path.{_≡_, refl, ap, _∙_}
-use mathlib.Core.Bool.{Bool, true, false, cond}
-use mathlib.Core.List.{List, [], _∷_}
+use mathlib.Core.Path.{_≡_, _∙_}
+use mathlib.Core.Bool.{true, false, cond}
+use mathlib.Core.List.{List}
 use Prim.Native.Nat.{ℕ, _+_, _*_, _≤_, _<_}
 use native.Mathlib.Omega.{arith}
 use borrow.Author.Tests.{eq-eqb, ne-eqb, lt-ltb, le-ltb}
@@ -10,7 +10,7 @@ use lib.ListN.{length}
 use Rattle.centralized_telescope.specs.declared.params.Params.{Params}
 use Rattle.centralized_telescope.specs.Params.{checked}
 use Rattle.centralized_telescope.specs.Elements.{elements, listCheck}
-use Rattle.centralized_telescope.specs.ListsLaws.{number-passed, number-met, number-last}
+use Rattle.centralized_telescope.specs.ListsLaws.{number-passed, number-met, second-met, two-passed, number-last}
 use Rattle.centralized_telescope.specs.Prover.{Proved, refused, served, workspaceShort, proverRefusal, proved}
 
 module _ (p : Params) (bytes ends marks indexes places table : List ℕ) where
@@ -22,35 +22,32 @@ module _ (p : Params) (bytes ends marks indexes places table : List ℕ) where
   refusal-is k e n = rw (e, ne-eqb k 0 n)
 
   -- 1, 2, 3
-  pub settings-refused : (k : ℕ) → checked p ≡ (k, 0) → (k ≡ 0 → ⊥) → answer ≡ refused k places table
+  pub settings-refused : (k : ℕ) → checked p .0 ≡ k → (k ≡ 0 → ⊥) → answer ≡ refused k places table
   unfolding proverRefusal
-  settings-refused k e n = refusal-is k (rw e (number-met k _ n)) n
+  settings-refused k e n = refusal-is k (number-met (checked p .0) _ k e n) n
 
-  module _ (X : ℕ) (s : checked p ≡ (0, X)) where
-    settings-passed : checked p .0 ≡ 0
-    settings-passed = ap (λ (a : ℕ × ℕ). a .0) s
-
+  module _ (s : checked p .0 ≡ 0) where
     -- 4, 5
     pub list-refused : (k : ℕ) → listCheck bytes ends marks indexes ≡ k → (k ≡ 0 → ⊥) → answer ≡ refused k places table
     unfolding proverRefusal
-    list-refused k e n = refusal-is k (number-passed (checked p .0) _ settings-passed ∙ rw e (number-met k _ n)) n
+    list-refused k e n = refusal-is k (second-met (checked p .0) (listCheck bytes ends marks indexes) _ k s e n) n
 
     module _ (l : listCheck bytes ends marks indexes ≡ 0) where
       -- 6
-      short : (b : Bool) → workspaceShort p places table ≡ b → b ≡ true → answer ≡ refused 6 places table
+      short : workspaceShort p places table ≡ true → answer ≡ refused 6 places table
       unfolding proverRefusal
-      short b e t =
+      short t =
           refusal-is 6
-          (number-passed (checked p .0) _ settings-passed ∙ number-passed (listCheck bytes ends marks indexes) _ l
-          ∙ rw (e ∙ t) (number-met 6 (cond (ltb (length ends) (p .«set_size»)) 10 0 ∷ []) (λ z. omega arith)))
+          (two-passed (checked p .0) (listCheck bytes ends marks indexes) _ s l
+          ∙ number-met (cond (workspaceShort p places table) 6 0) _ 6 (rw t) (λ z. omega arith))
           (λ z. omega arith)
 
       pub places-short : length places < p .«proof_size» → answer ≡ refused 6 places table
-      places-short h = short true (rw (lt-ltb (length places) (p .«proof_size») h)) refl
+      places-short h = short (rw (lt-ltb (length places) (p .«proof_size») h))
 
       module _ (h : p .«proof_size» ≤ length places) where
         pub table-short : length table < 3 * p .«set_size» + 1 → answer ≡ refused 6 places table
-        table-short t = short true (rw (le-ltb (length places) (p .«proof_size») h, lt-ltb (length table) (3 * p .«set_size» + 1) t)) refl
+        table-short t = short (rw (le-ltb (length places) (p .«proof_size») h, lt-ltb (length table) (3 * p .«set_size» + 1) t))
 
         module _ (t : 3 * p .«set_size» + 1 ≤ length table) where
           enough : workspaceShort p places table ≡ false
@@ -59,8 +56,7 @@ module _ (p : Params) (bytes ends marks indexes places table : List ℕ) where
           after-six : proverRefusal p bytes ends marks indexes places table ≡ cond (ltb (length ends) (p .«set_size»)) 10 0
           unfolding proverRefusal
           after-six =
-              number-passed (checked p .0) _ settings-passed
-              ∙ number-passed (listCheck bytes ends marks indexes) _ l
+              two-passed (checked p .0) (listCheck bytes ends marks indexes) _ s l
               ∙ number-passed (cond (workspaceShort p places table) 6 0) _ (rw enough)
               ∙ number-last (cond (ltb (length ends) (p .«set_size»)) 10 0)
 

@@ -7,8 +7,9 @@ use Prim.Native.Nat.{ℕ, _+_, _^_, _≤_}
 use native.Mathlib.Omega.{arith}
 use borrow.Author.Tests.{eq-eqb, ne-eqb}
 use lib.Dec.{ltb}
-use lib.ListN.{length, take, drop, length-append, length-take, drop-of-length-le}
+use lib.ListN.{length, take, drop, length-append, length-take}
 use lib.Seq.{take-all}
+use Rattle.sampling.specs.CommonLaws.{copied}
 use Rattle.sampling.specs.BigEndian.{bigEndian, bytesOf}
 use Rattle.sampling.specs.BigEndianLaws.{length-bytesOf}
 use Rattle.sampling.specs.Fips180.{sha256}
@@ -50,9 +51,7 @@ bin-is o d t n R e O D T = rw (← T, ← D) O
 
 -- a copy of the first 16 bytes over the 16 that were there
 pub half-is : (h d : List ℕ) → length h ≡ 32 → length d ≡ 16 → take (length (take 16 h)) (take 16 h) ++ drop (length (take 16 h)) d ≡ take 16 h
-half-is h d H D =
-    let n : length (take 16 h) ≡ 16 = simp length-take (omega arith) in
-    rw (take-all (length (take 16 h)) (take 16 h) (omega arith), drop-of-length-le d {i = length (take 16 h)} (omega arith), append-nil)
+half-is h d H D = copied (take 16 h) d (simp length-take (omega arith))
 
 pub yes-is : (h d f : List ℕ) (x : ℕ) (r : Bool) → d ≡ sha256 (proofLabel ++ (h ++ [])) → f ≡ take 16 d → r ≡ ltb (bigEndian 16 f) x → r ≡ belowX x h
 unfolding belowX

@@ -19,7 +19,7 @@ use Rattle.centralized_telescope.specs.Search.{binsOf, placesIn}
 use Rattle.centralized_telescope.specs.TryLaws.{length-binList}
 use Rattle.centralized_telescope.specs.Visit.{tryOn, Ready, Span}
 
-module _ (p : Params) (X : ℕ) (bytes ends marks indexes : List ℕ) (R : ℕ) (table : List ℕ) (room : ℕ)
+module _ {p : Params} {X : ℕ} {bytes ends marks indexes : List ℕ} {R : ℕ} {table : List ℕ} {room : ℕ}
     (r : Ready p X bytes ends marks indexes R table room) where
   abbrev T : Try
   T = tryOn p bytes ends marks indexes R
@@ -31,9 +31,6 @@ module _ (p : Params) (X : ℕ) (bytes ends marks indexes : List ℕ) (R : ℕ) 
 
   law : Lawful p X
   law = lawful p X (r .settings)
-
-  pub set-size-some : 0 < N
-  set-size-some = omega (arith, law .set-size)
 
   pub set-size-most : N ≤ 32768
   set-size-most = law .set-size .1

@@ -1,12 +1,11 @@
 -- The verdict by its tests, in the table's order.
-use mathlib.Core.Path.{_≡_, refl, ap, sym, _∙_}
+use mathlib.Core.Path.{_≡_, ap, sym, _∙_}
 use mathlib.Core.Bool.{Bool, cond}
 use mathlib.Core.Logic.{⊎-elim}
 use mathlib.Core.List.{List, [], _∷_}
-use Prim.Native.Nat.{ℕ, zero, suc, _≤_, _<_}
+use Prim.Native.Nat.{ℕ, _≤_, _<_}
 use native.Mathlib.Omega.{arith}
 use borrow.Author.Tests.{eq-eqb, ne-eqb, le-leb, lt-leb}
-use lib.Dec.{eqb}
 use lib.ListN.{length}
 use types.Run.{OneOf}
 use denote.Enum.Declared.{tagOf}
@@ -20,7 +19,7 @@ use Rattle.centralized_telescope.specs.declared.types.ListCheck.the-vari
 use Rattle.centralized_telescope.proofs.params.Checked as settings
 use Rattle.centralized_telescope.proofs.types.ListCheck as list
 use Rattle.centralized_telescope.specs.Elements.{Element, elements, listCheck, listNumber}
-use Rattle.centralized_telescope.specs.Lists.{firstNumber}
+use Rattle.centralized_telescope.specs.ListsLaws.{number-met, second-met, two-passed, number-last}
 use Rattle.centralized_telescope.specs.Params.{checked, checkedNumber}
 use Rattle.centralized_telescope.specs.ParamsLaws.{lawful}
 use Rattle.centralized_telescope.specs.Verifier.{lastHash, yesOn, judged, verdict}
@@ -50,10 +49,6 @@ module _ (p : Params) (R S : ℕ) (es : List Element) where
 
 -- ---- the whole
 
-last-number : (k : ℕ) → k ≡ cond (eqb k 0) 0 k
-last-number zero = refl
-last-number (suc k) = rw (ne-eqb (suc k) 0 (λ e. omega arith))
-
 -- a refusal's number isn't 0
 pub settings-number : (s : Checked) → OneOf (1 ∷ 2 ∷ 3 ∷ []) (tagOf settings.the-type s) → checkedNumber s .0 ≡ 0 → ⊥
 settings-number (check.Lawful x) k e = ⊎-elim (λ z. omega arith) (λ r. ⊎-elim (λ z. omega arith) (λ z. omega arith) r) k
@@ -74,14 +69,14 @@ threshold-passed p x e =
 
 module _ (p : Params) (R S : ℕ) (d n m x : List ℕ) where
   pub settings-refused : (k : ℕ) → k ≡ checked p .0 → (k ≡ 0 → ⊥) → k ≡ verdict p R S d n m x
-  unfolding verdict firstNumber
-  settings-refused k e z = rw (← e, ne-eqb k 0 z)
+  unfolding verdict
+  settings-refused k e z = sym (number-met (checked p .0) _ k (sym e) z)
 
   module _ (P : checked p .0 ≡ 0) where
     pub list-refused : (k : ℕ) → k ≡ listCheck d n m x → (k ≡ 0 → ⊥) → k ≡ verdict p R S d n m x
-    unfolding verdict firstNumber
-    list-refused k e z = rw (P, ← e, ne-eqb k 0 z)
+    unfolding verdict
+    list-refused k e z = sym (second-met (checked p .0) (listCheck d n m x) _ k P (sym e) z)
 
     pub left-to-judge : listCheck d n m x ≡ 0 → judged p R S (elements d n m x) ≡ verdict p R S d n m x
-    unfolding verdict firstNumber
-    left-to-judge l = rw (P, l) (last-number (judged p R S (elements d n m x)))
+    unfolding verdict
+    left-to-judge l = sym (two-passed (checked p .0) (listCheck d n m x) _ P l ∙ number-last (judged p R S (elements d n m x)))

@@ -9,13 +9,14 @@ use borrow.Author.Tests.{eqb-true, eqb-false, leb-true, leb-false}
 use lib.Dec.{eqb, leb}
 use lib.ListN.{length}
 use Rattle.centralized_telescope.specs.declared.params.Params.{Params}
+use Rattle.centralized_telescope.specs.TestLaws.{neither}
 use Rattle.centralized_telescope.specs.Params.{checked}
 use Rattle.centralized_telescope.specs.Elements.{Element, elements, listCheck}
-use Rattle.centralized_telescope.specs.ListsLaws.{number-passed, number-last}
 use Rattle.centralized_telescope.specs.Chains.{ElementsPass}
 use Rattle.centralized_telescope.specs.Verifier.{lastHash, yesOn, countersOut, judged, verdict}
 use Rattle.centralized_telescope.specs.VerifierLaws.{yes-exists, exists-yes}
 use Rattle.centralized_telescope.specs.Demand3.{OfVerifier}
+use Rattle.centralized_telescope.proofs.VerdictAnswers.{left-to-judge}
 
 module _ (p : Params) (R S : ℕ) (es : List Element) where
   abbrev Long : Type 0
@@ -32,6 +33,10 @@ module _ (p : Params) (R S : ℕ) (es : List Element) where
 
   -- ---- each verdict, and that it is the only one
 
+  within : S < p .«search_width» → R < p .«max_retries» → (p .«search_width» ≤ S) ⊎ (p .«max_retries» ≤ R) → ⊥
+  within s r (inl o) = omega arith
+  within s r (inr o) = omega arith
+
   module _ (v : ℕ) where
     differs : (Long → ⊥) → v ≡ 20 → OfVerifier p R S es v
     differs n e = record {
@@ -45,23 +50,15 @@ module _ (p : Params) (R S : ℕ) (es : List Element) where
     out l o e = record {
       length-differs = ((λ q. absurd (omega arith)), (λ h. absurd (h l)));
       counters-out = ((λ _. (l, o)), (λ _. e));
-      fails = ((λ q. absurd (omega arith)), (λ h. absurd (both (h .1) (h .2) o)));
-      accepts = ((λ q. absurd (omega arith)), (λ h. absurd (both (h .0) (h .1) o)));
+      fails = ((λ q. absurd (omega arith)), (λ h. absurd (within (h .1) (h .2) o)));
+      accepts = ((λ q. absurd (omega arith)), (λ h. absurd (within (h .0) (h .1) o)));
     }
-      where
-        both : S < p .«search_width» → R < p .«max_retries» → (p .«search_width» ≤ S) ⊎ (p .«max_retries» ≤ R) → ⊥
-        both s r (inl o) = omega arith
-        both s r (inr o) = omega arith
 
     module _ (l : Long) (s : S < p .«search_width») (r : R < p .«max_retries») where
-      within : (p .«search_width» ≤ S) ⊎ (p .«max_retries» ≤ R) → ⊥
-      within (inl o) = omega arith
-      within (inr o) = omega arith
-
       fails-by : (ElementsPass p R S es → ⊥) → v ≡ 22 → OfVerifier p R S es v
       fails-by n e = record {
         length-differs = ((λ q. absurd (omega arith)), (λ h. absurd (h l)));
-        counters-out = ((λ q. absurd (omega arith)), (λ h. absurd (within (h .1))));
+        counters-out = ((λ q. absurd (omega arith)), (λ h. absurd (within s r (h .1))));
         fails = ((λ _. (l, s, r, n)), (λ _. e));
         accepts = ((λ q. absurd (omega arith)), (λ h. absurd (n (h .2))));
       }
@@ -69,7 +66,7 @@ module _ (p : Params) (R S : ℕ) (es : List Element) where
       accepts-by : ElementsPass p R S es → v ≡ 0 → OfVerifier p R S es v
       accepts-by w e = record {
         length-differs = ((λ q. absurd (omega arith)), (λ h. absurd (h l)));
-        counters-out = ((λ q. absurd (omega arith)), (λ h. absurd (within (h .1))));
+        counters-out = ((λ q. absurd (omega arith)), (λ h. absurd (within s r (h .1))));
         fails = ((λ q. absurd (omega arith)), (λ h. absurd (h .3 w)));
         accepts = ((λ _. (s, r, w)), (λ _. e));
       }
@@ -84,11 +81,7 @@ module _ (p : Params) (R S : ℕ) (es : List Element) where
       go false q v = inr (leb-true _ _ v)
 
   in-is : leb (p .«search_width») S || leb (p .«max_retries») R ≡ false → (S < p .«search_width») × (R < p .«max_retries»)
-  in-is e = go (leb (p .«search_width») S) refl e
-    where
-      go : (b : Bool) → leb (p .«search_width») S ≡ b → b || leb (p .«max_retries») R ≡ false → (S < p .«search_width») × (R < p .«max_retries»)
-      go true q v = let z : _≡_ {A = ℕ} 0 1 = cc in absurd (omega arith)
-      go false q v = (leb-false _ _ q, leb-false _ _ v)
+  in-is e = let w = neither (leb (p .«search_width») S) e in (leb-false _ _ (w .0), leb-false _ _ (w .1))
 
   judged-so : OfVerifier p R S es (judged p R S es)
   unfolding judged
@@ -104,7 +97,5 @@ module _ (p : Params) (R S : ℕ) (es : List Element) where
 -- on an accepted list, under settings within the limits, the verdict is that
 pub verdict-so : (p : Params) (R S : ℕ) (bytes ends marks indexes : List ℕ) → checked p .0 ≡ 0 → listCheck bytes ends marks indexes ≡ 0
     → OfVerifier p R S (elements bytes ends marks indexes) (verdict p R S bytes ends marks indexes)
-unfolding verdict
 verdict-so p R S bytes ends marks indexes s l =
-    rw (number-passed (checked p .0) _ s, number-passed (listCheck bytes ends marks indexes) _ l, number-last (judged p R S (elements bytes ends marks indexes)))
-    (judged-so p R S (elements bytes ends marks indexes))
+    rw (← left-to-judge p R S bytes ends marks indexes s l) (judged-so p R S (elements bytes ends marks indexes))

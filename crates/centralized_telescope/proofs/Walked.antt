@@ -1,6 +1,6 @@
 -- What a visit and a walk give, step by step. The proofs of the search cite these and open no definition.
 use mathlib.Core.Path.{_≡_, refl, sym, _∙_}
-use mathlib.Core.Bool.{Bool, true, false, cond}
+use mathlib.Core.Bool.{true, false, cond}
 use mathlib.Core.List.{List, [], _∷_, _++_}
 use mathlib.Core.Option.{none, some}
 use Prim.Native.Nat.{ℕ, suc, _+_, _-_, _≤_, _<_}
@@ -11,6 +11,7 @@ use lib.ListN.{length}
 use Rattle.centralized_telescope.specs.declared.params.Params.{Params}
 use Rattle.centralized_telescope.specs.declared.proof.Outcome.{Outcome}
 use Rattle.centralized_telescope.specs.declared.proof.Outcome.the-variants as outcome
+use Rattle.centralized_telescope.specs.TestLaws.{either-way}
 use Rattle.centralized_telescope.specs.Rounds.{saysYes}
 use Rattle.centralized_telescope.specs.Chains.{Try, Chain}
 use Rattle.centralized_telescope.specs.Search.{placesIn, nextAt, idOf, grown, along, chains, passing}
@@ -113,6 +114,12 @@ pub found-of : (r : Ended Chain) (t : ℕ) → outcome.Found t ≡ outcomeOf r �
 found-of (found u c) t e = (c, cc)
 found-of (missing u) t e = let z : _≡_ {A = ℕ} 0 1 = cc in absurd (omega arith)
 
+-- without a find, whatever an answer says of the walk's end, and the lent places as they were
+pub stopped : {A : Type 0} (answer : Ended Chain → A) (whole : Ended Chain) (t : ℕ) (now old : List ℕ) → whole ≡ missing t → now ≡ old
+    → (answer (missing t) ≡ answer whole) × (now ≡ written whole old)
+unfolding written
+stopped answer whole t now old e q = rw e (refl, q)
+
 -- ---- the lent places after a visit
 
 module _ (p : Params) (depth : ℕ) (r : Ended Chain) (places : List ℕ) where
@@ -126,11 +133,7 @@ module _ (p : Params) (depth : ℕ) (r : Ended Chain) (places : List ℕ) where
 
   pub written-none : (t : ℕ) → r ≡ missing t → writtenFrom p depth r places ≡ places
   unfolding writtenFrom written
-  written-none t e = rw e (go (ltb depth (p .«proof_size»)))
-    where
-      go : (b : Bool) → cond b places places ≡ places
-      go true = refl
-      go false = refl
+  written-none t e = rw e (either-way (ltb depth (p .«proof_size»)) places)
 
 -- ---- the answers of a visit
 

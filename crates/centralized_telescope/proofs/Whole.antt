@@ -1,32 +1,19 @@
 -- Doubles from 0 to 2 ^ 52 in code: the tests that tell them, their floor and their ceiling.
 use mathlib.Core.Path.{_≡_, refl, sym, ap, _∙_, subst}
-use mathlib.Core.Bool.{Bool, true, false, cond, _||_}
+use mathlib.Core.Bool.{Bool, true, false, cond}
 use Prim.Native.Nat.{ℕ, _+_, _*_, _/_, _%_, _^_, _≤_, _<_}
 use native.Mathlib.Nat.{mul-one, mul-right-comm, mul-lt-mul-of-pos-right, mul-le-mul-right, zero-mul, zero-div, div-add-mod'}
 use native.Mathlib.Omega.{arith}
-use borrow.Author.Tests.{ltb-true, ltb-false, lt-ltb, le-ltb, eq-eqb, ne-eqb}
+use borrow.Author.Tests.{ltb-true, ltb-false, le-ltb, eq-eqb, ne-eqb}
 use lib.IntN.{ℤ, pos}
 use lib.Dec.{T, ltb, eqb, lt→ltb, le→leb}
-use lib.Ieee.{Float, nan, inf, fin, binary64, up, down, isNan, lt, ne, ofBits, ofInt, inFloat, toUnsigned}
+use lib.Ieee.{Float, nan, inf, fin, binary64, up, down, lt, ofInt, inFloat, toUnsigned}
 use lib.Ieee.Fits.{down-pos}
 use lib.Ieee.Back.{round-whole}
-use lib.Ieee.Compare.{differs-from-itself, nan-differs}
 use lib.Ieee.Exact.{HasValue}
-use Rattle.centralized_telescope.specs.Params.{outside, floor, ceil}
+use Rattle.sampling.specs.CommonLaws.{same-test}
+use Rattle.centralized_telescope.specs.Params.{floor, ceil}
 use Rattle.centralized_telescope.specs.SmallCaseLaws.{Inside, floor-most}
-
--- ---- the test on the completeness
-
-pub a-nan : (c : Float) → ne c c ≡ true → true ≡ outside 65535 c
-unfolding outside isNan
-a-nan c d = rw (differs-from-itself c (subst T (sym d) tt))
-
-pub by-bounds : (c : Float) (t : Bool) → ne c c ≡ false → lt c (ofBits binary64 0) ≡ t
-    → t || lt (ofBits binary64 0x40ef_ffe0_0000_0000) c ≡ outside 65535 c
-unfolding outside isNan ofBits
-by-bounds nan t d e = absurd (subst T (sym nan-differs ∙ d) tt)
-by-bounds (inf s) t d e = rw e
-by-bounds (fin s m n) t d e = rw e
 
 -- ---- the floor: what the truncation asks, and what it answers
 
@@ -68,11 +55,8 @@ unfolding ofInt
 double t h = round-whole binary64 false t (omega arith)
 
 scaled : (a b k : ℕ) → 0 < k → ltb (a * k) (b * k) ≡ ltb a b
-scaled a b k h = go (ltb a b) refl
-  where
-    go : (t : Bool) → ltb a b ≡ t → ltb (a * k) (b * k) ≡ t
-    go true e = lt-ltb (a * k) (b * k) (mul-lt-mul-of-pos-right (ltb-true a b e) h)
-    go false e = le-ltb (a * k) (b * k) (mul-le-mul-right k (ltb-false a b e))
+scaled a b k h =
+    sym (same-test a b (a * k) (b * k) (λ l. mul-lt-mul-of-pos-right l h) (λ l. mul-le-mul-right k l))
 
 less : (v : Float) (t : ℕ) (s : Bool) (m : ℕ) (e : ℤ) → HasValue v false t 1 → (s ≡ true → m ≡ 0) → lt v (fin s m e) ≡ ltb (t * down e) (m * up e)
 unfolding lt

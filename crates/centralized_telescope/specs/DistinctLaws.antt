@@ -1,21 +1,15 @@
 -- Laws of distinctness: the yes or no is yes exactly when no two places have equal data bytes.
 use mathlib.Core.Path.{_≡_, refl}
-use mathlib.Core.Bool.{Bool, true, false, not, _&&_}
+use mathlib.Core.Bool.{Bool, true, false, not}
 use mathlib.Core.List.{List, [], _∷_}
 use Prim.Native.Nat.{ℕ, zero, suc, _<_}
 use native.Mathlib.Omega.{arith}
 use borrow.Author.Tests.{eq-eqb, eqb-true, not-true}
 use lib.Dec.{eqb}
 use lib.ListN.{length}
+use Rattle.centralized_telescope.specs.TestLaws.{not-both, both}
 use Rattle.centralized_telescope.specs.Elements.{Element, elementAt}
 use Rattle.centralized_telescope.specs.Distinct.{Distinct, sameBytes, noneSame, noneEqual}
-
-pub not-both : {b : Bool} → b ≡ true → b ≡ false → ⊥
-not-both t f = let z : _≡_ {A = ℕ} 0 1 = cc in omega arith
-
-both : (a b : Bool) → a && b ≡ true → (a ≡ true) × (b ≡ true)
-both true b e = (refl, e)
-both false b e = absurd (not-both e refl)
 
 -- ---- bytes
 
@@ -30,7 +24,7 @@ same-bytes [] [] e = refl
 same-bytes [] (y ∷ ys) e = absurd (not-both e refl)
 same-bytes (x ∷ xs) [] e = absurd (not-both e refl)
 same-bytes (x ∷ xs) (y ∷ ys) e =
-    let h = both (eqb x y) (sameBytes xs ys) e in
+    let h = both (eqb x y) e in
     let p = eqb-true x y (h .0) in
     let q = same-bytes xs ys (h .1) in
     cc
@@ -48,9 +42,9 @@ none-same : (own : List ℕ) (es : List Element) → noneSame own es ≡ true �
 unfolding noneSame elementAt
 none-same own [] e j l q = omega arith
 none-same own (x ∷ es) e zero l q =
-    let h = both (not (sameBytes own (x .bytes))) (noneSame own es) e in
+    let h = both (not (sameBytes own (x .bytes))) e in
     not-both (rw q (bytes-same (x .bytes))) (not-true (sameBytes own (x .bytes)) (h .0))
-none-same own (x ∷ es) e (suc j) l q = none-same own es (both (not (sameBytes own (x .bytes))) (noneSame own es) e .1) j (omega arith) q
+none-same own (x ∷ es) e (suc j) l q = none-same own es (both (not (sameBytes own (x .bytes))) e .1) j (omega arith) q
 
 same-none : (own : List ℕ) (es : List Element) → ((j : ℕ) → j < length es → own ≡ elementAt es j .bytes → ⊥) → noneSame own es ≡ true
 unfolding noneSame elementAt
@@ -61,8 +55,8 @@ pub none-equal : (es : List Element) → noneEqual es ≡ true → Distinct es
 unfolding noneEqual elementAt
 none-equal [] e i j l h q = omega arith
 none-equal (x ∷ es) e i zero l h q = omega arith
-none-equal (x ∷ es) e zero (suc j) l h q = none-same (x .bytes) es (both (noneSame (x .bytes) es) (noneEqual es) e .0) j (omega arith) q
-none-equal (x ∷ es) e (suc i) (suc j) l h q = none-equal es (both (noneSame (x .bytes) es) (noneEqual es) e .1) i j (omega arith) (omega arith) q
+none-equal (x ∷ es) e zero (suc j) l h q = none-same (x .bytes) es (both (noneSame (x .bytes) es) e .0) j (omega arith) q
+none-equal (x ∷ es) e (suc i) (suc j) l h q = none-equal es (both (noneSame (x .bytes) es) e .1) i j (omega arith) (omega arith) q
 
 pub equal-none : (es : List Element) → Distinct es → noneEqual es ≡ true
 unfolding noneEqual elementAt

@@ -6,6 +6,7 @@ use Prim.Native.Nat.{ℕ, _-_}
 use lib.Dec.{ltb, eqb}
 use lib.ListN.{length, take, drop, getD}
 use Rattle.sampling.specs.BigEndian.{bytesOf}
+use Rattle.centralized_telescope.specs.Lists.{someOf}
 use Rattle.centralized_telescope.specs.declared.types.ListCheck.{ListCheck}
 use Rattle.centralized_telescope.specs.declared.types.ListCheck.the-variants as check
 
@@ -70,9 +71,8 @@ indexAt marks indexes place = indexOf (getD marks place 0) (getD indexes place 0
 
 -- ---- list, 4: "ends, marks, indexes differ in length; a mark over 1; an end that falls or passes the data"
 
-unfoldable pub markOver : List ℕ → Bool
-markOver [] = false
-markOver (mark ∷ marks) = ltb 1 mark || markOver marks
+abbrev pub markOver : List ℕ → Bool
+markOver marks = someOf (ltb 1) marks
 
 -- of ends behind one at `from`, with so many data bytes
 unfoldable pub endWrong : ℕ → ℕ → List ℕ → Bool

@@ -1,22 +1,19 @@
 -- Laws of accepted lists. A caller that cites these opens none of the definitions.
 use mathlib.Core.Path.{_≡_, refl, sym, ap}
-use mathlib.Core.Bool.{Bool, true, false, cond, not, _||_}
+use mathlib.Core.Bool.{Bool, true, false, cond, not}
 use mathlib.Core.List.{List, [], _∷_, _++_}
 use mathlib.Core.Option.{Option, none, some}
 use Prim.Native.Nat.{ℕ, zero, suc, _-_, _≤_, _<_}
 use native.Mathlib.Omega.{arith}
 use borrow.Author.Tests.{eqb-true, ltb-false, not-false}
 use lib.Dec.{ltb, eqb}
-use lib.ListN.{length, take, drop, getD, length-take, length-append}
+use lib.ListN.{length, take, drop, getD, length-take}
 use lib.Seq.{getD-take}
 use Rattle.sampling.specs.BigEndianLaws.{length-bytesOf}
+use Rattle.centralized_telescope.specs.TestLaws.{neither}
 use Rattle.centralized_telescope.specs.Elements.{Element, indexBytes, tail, indexOf, elementsFrom, elements, elementAt, startAt, dataAt, indexAt, markOver, endWrong, malformed, dataLong, tooLarge, listCheck}
 
 -- ---- what the check of a list says of the whole of it
-
-neither : (a : Bool) {b : Bool} → a || b ≡ false → (a ≡ false) × (b ≡ false)
-neither true e = let z : _≡_ {A = ℕ} 0 1 = cc in absurd (omega arith)
-neither false e = (refl, e)
 
 -- no refusal: neither test said yes
 unrefused : (a b : Bool) → _≡_ {A = ℕ} (cond a 4 (cond b 5 0)) 0 → (a ≡ false) × (b ≡ false)
@@ -50,12 +47,6 @@ accepted d n m x e =
     }
 
 -- ---- what it says of one place: each fault is looked for from the front
-
-mark-at : (m : List ℕ) (i : ℕ) → i < length m → markOver m ≡ false → getD m i 0 ≤ 1
-unfolding markOver
-mark-at [] i h e = omega arith
-mark-at (k ∷ m) zero h e = ltb-false 1 k (neither (ltb 1 k) e .0)
-mark-at (k ∷ m) (suc i) h e = mark-at m i (omega arith) (neither (ltb 1 k) e .1)
 
 -- of ends behind one at `from`
 end-at : (from limit : ℕ) (n : List ℕ) (i : ℕ) → i < length n → endWrong from limit n ≡ false
@@ -128,9 +119,6 @@ module _ (d n m x : List ℕ) (A : listCheck d n m x ≡ 0) where
   length-elements = length-from 0 d n m x same-marks same-indexes
 
   module _ (i : ℕ) (h : i < length n) where
-    pub mark-one-at-most : getD m i 0 ≤ 1
-    mark-one-at-most = mark-at m i (omega (arith, same-marks)) (accepted d n m x A .marked)
-
     pub size-within : getD n i 0 - startAt n i ≤ 4096
     unfolding startAt
     size-within = size-at 0 n i h (accepted d n m x A .short)
@@ -156,9 +144,6 @@ module _ (d n m x : List ℕ) (A : listCheck d n m x ≡ 0) where
 
     pub bytes-short : length (elementAt (elements d n m x) i .bytes) ≤ 4096
     bytes-short = rw data-there data-short
-
-    pub tail-short : length (tail (elementAt (elements d n m x) i)) ≤ 4104
-    tail-short = rw tail-there (simp length-append (omega (arith, data-short, index-short (indexAt m x i))))
 
 -- ---- the first k elements of a list: a place among them means the same element in both
 

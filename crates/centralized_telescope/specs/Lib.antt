@@ -1,4 +1,7 @@
--- The definitions that the contracts of `centralized_telescope` cite, and laws about them.
+-- The definitions that the contracts of `centralized_telescope` cite, in the order in which they build on each other, each with its laws.
+pub mod TestLaws
+pub mod Lists
+pub mod ListsLaws
 pub mod Params
 pub mod ParamsLaws
 pub mod SmallCaseLaws
@@ -7,8 +10,6 @@ pub mod Elements
 pub mod ElementsLaws
 pub mod Rounds
 pub mod RoundsLaws
-pub mod Lists
-pub mod ListsLaws
 pub mod Bins
 pub mod BinsLaws
 pub mod BinPasses
@@ -24,12 +25,13 @@ pub mod Prover
 pub mod OneBinLaws
 pub mod SearchCases
 pub mod AllCases
-pub mod WrittenOut
-pub mod WrittenOutLaws
 pub mod Verifier
 pub mod VerifierLaws
 pub mod Exports
 pub mod Demand3
+pub mod WrittenOut
+pub mod WrittenOutLaws
 pub mod Distinct
 pub mod DistinctLaws
-pub mod Buckets
+pub mod Sorting
+pub mod SortingLaws

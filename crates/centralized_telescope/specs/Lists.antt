@@ -1,9 +1,10 @@
 -- Words about lists that the definitions share.
-use mathlib.Core.Bool.{Bool, cond}
-use mathlib.Core.List.{List, [], _∷_, List·Memᴰ}
+use mathlib.Core.Bool.{Bool, false, cond, _||_}
+use mathlib.Core.List.{List, [], _∷_, _++_, List·Memᴰ}
 use mathlib.Core.Option.{Option, none, some}
 use Prim.Native.Nat.{ℕ, _+_}
 use lib.Dec.{eqb}
+use lib.ListN.{length, drop}
 
 -- each stands in the relation to all after it
 unfoldable pub Pairwise : {A : Type 0} → (A → A → Type 0) → List A → Type 0
@@ -15,6 +16,11 @@ unfoldable pub Each : {A : Type 0} → (A → Type 0) → List A → Type 0
 Each P [] = Unit {0}
 Each P (x ∷ xs) = P x × Each P xs
 
+-- the test says yes of one of them
+unfoldable pub someOf : {A : Type 0} → (A → Bool) → List A → Bool
+someOf test [] = false
+someOf test (x ∷ xs) = test x || someOf test xs
+
 -- the first for which the test says yes
 unfoldable pub firstOf : {A : Type 0} → (A → Bool) → List A → Option A
 firstOf test [] = none
@@ -24,6 +30,10 @@ firstOf test (x ∷ xs) = cond (test x) (some x) (firstOf test xs)
 unfoldable pub upToFirst : {A : Type 0} → (A → Bool) → List A → ℕ
 upToFirst test [] = 0
 upToFirst test (x ∷ xs) = cond (test x) 1 (1 + upToFirst test xs)
+
+-- a lent buffer with numbers written over its first ones, the rest untouched
+abbrev pub over : List ℕ → List ℕ → List ℕ
+over xs lent = xs ++ drop (length xs) lent
 
 -- "Each call meets its lines from the top.": the first number that isn't 0, or 0 where all are
 unfoldable pub firstNumber : List ℕ → ℕ

@@ -1,15 +1,19 @@
--- Laws of the words of specs/Lists.
+-- Laws of the words of specs/Lists, and of lists.
 use mathlib.Core.Path.{_≡_, refl, sym, ap, _∙_, subst}
 use mathlib.Core.Bool.{Bool, true, false, cond}
 use mathlib.Core.Logic.{_⊎_, inl, inr, ⊎-elim}
-use mathlib.Core.List.{List, [], _∷_, _++_, map, List·Memᴰ, List·Memᴰ·head, List·Memᴰ·tail, List·Memᴰ·cases-cons, List·Memᴰ·append-cases, List·Memᴰ·not-nil}
+use mathlib.Core.List.{List, [], _∷_, _++_, map, append-assoc, map-append, List·Memᴰ, List·Memᴰ·head, List·Memᴰ·tail, List·Memᴰ·cases-cons, List·Memᴰ·append-cases, List·Memᴰ·not-nil}
 use mathlib.Core.Option.{none, some}
-use Prim.Native.Nat.{ℕ, zero, suc, _+_, _≤_, _<_}
+use Prim.Native.Nat.{ℕ, zero, suc, _+_, _-_, _≤_, _<_}
+use native.Mathlib.Nat.{suc-add}
+use native.Mathlib.Numerals.{add-one}
 use native.Mathlib.Omega.{arith}
-use borrow.Author.Tests.{eq-eqb, eqb-true, eqb-false}
+use borrow.Author.Tests.{eq-eqb, ne-eqb, eqb-true, eqb-false}
 use lib.Dec.{T, eqb}
-use lib.ListN.{length, getD}
-use Rattle.centralized_telescope.specs.Lists.{Pairwise, Each, firstOf, upToFirst, firstNumber}
+use lib.ListN.{length, take, drop, getD, set, length-append, take-append-drop, drop-of-length-le}
+use lib.Seq.{slice, take-at, take-take, take-suc, take-set-le, take-set-lt, drop-cons, drop-drop, drop-set-lt, set-at, length-take-le}
+use Rattle.centralized_telescope.specs.TestLaws.{neither, lt-or-le}
+use Rattle.centralized_telescope.specs.Lists.{Pairwise, Each, someOf, firstOf, upToFirst, firstNumber, over}
 
 -- a list in order followed by another, each of whose elements comes after all of the first
 pub pairwise-append : {A : Type 0} (R : A → A → Type 0) (xs ys : List A) → Pairwise R xs → Pairwise R ys
@@ -24,14 +28,60 @@ pairwise-append R (x ∷ xs) ys p q r = (
 
 -- ---- maps
 
-pub length-map : {A B : Type 0} (f : A → B) (xs : List A) → length (map f xs) ≡ length xs
-length-map f [] = refl
-length-map f (x ∷ xs) = ap suc (length-map f xs)
-
 pub getD-map : {A B : Type 0} (f : A → B) (xs : List A) (i : ℕ) (b : B) (a : A) → i < length xs → getD (map f xs) i b ≡ f (getD xs i a)
 getD-map f [] i b a l = absurd (omega arith)
 getD-map f (x ∷ xs) zero b a l = refl
 getD-map f (x ∷ xs) (suc i) b a l = getD-map f xs i b a (omega arith)
+
+pub map-more : {A B : Type 0} (f : A → B) (xs : List A) (i : ℕ) (a : A) → i < length xs → map f (take (i + 1) xs) ≡ map f (take i xs) ++ (f (getD xs i a) ∷ [])
+map-more f xs i a h = rw (add-one, take-suc xs i a h) (map-append f (take i xs) (getD xs i a ∷ []))
+
+-- ---- parts: a slice of a list from one place up to another, and what stands behind a place
+
+pub part-behind : (front rest : List ℕ) (a b : ℕ) → slice (length front + a) (length front + b) (front ++ rest) ≡ slice a b rest
+part-behind [] rest a b = let e : 0 + a ≡ a = omega arith in let f : 0 + b ≡ b = omega arith in rw (e, f)
+part-behind (x ∷ front) rest a b = rw (suc-add (length front) a, suc-add (length front) b) (part-behind front rest a b)
+
+pub at-place : (l : List ℕ) (k : ℕ) → k < length l → List·Memᴰ (getD l k 0) l
+at-place [] k h = absurd (omega arith)
+at-place (x ∷ l) zero h = List·Memᴰ·head refl
+at-place (x ∷ l) (suc k) h = List·Memᴰ·tail (at-place l k (omega arith))
+
+-- a part beside a store
+pub part-set : (a t : ℕ) (l : List ℕ) (k v : ℕ) → (k < a) ⊎ (t ≤ k) → slice a t (set l k v) ≡ slice a t l
+part-set a t l k v (inr h) = ap (drop a) (take-set-le t l k v h)
+part-set a t l k v (inl h) =
+    ⊎-elim
+    (λ j. ap (drop a) (take-set-lt t l k v j) ∙ drop-set-lt a (take t l) k v h)
+    (λ j. ap (drop a) (take-set-le t l k v j))
+    (lt-or-le k t)
+
+pub take-part : (f t : ℕ) (l : List ℕ) → f ≤ t → take t l ≡ take f l ++ slice f t l
+take-part f t l h = sym (take-append-drop f (take t l)) ∙ rw (take-take f t l h)
+
+-- lists that agree behind a place agree behind a later one
+pub agree-on : (a b : ℕ) (x y : List ℕ) → a ≤ b → drop a x ≡ drop a y → drop b x ≡ drop b y
+agree-on a b x y l e = let q : a + (b - a) ≡ b = omega arith in rw q at (sym (drop-drop (b - a) a x) ∙ ap (drop (b - a)) e ∙ drop-drop (b - a) a y)
+
+-- ---- numbers written over the first ones of a list
+
+-- one number more behind k of them
+pub store-behind : (xs lent : List ℕ) (k v : ℕ) → length xs ≡ k → k < length lent
+    → set (xs ++ drop k lent) k v ≡ (xs ++ (v ∷ [])) ++ drop (k + 1) lent
+store-behind xs lent k v e h =
+    rw (drop-cons lent k 0 h, set-at xs (getD lent k 0) (drop (suc k) lent) v k e, add-one, append-assoc xs)
+
+-- of a list that is copied
+pub copy-more : (p d : List ℕ) (i : ℕ) → i < length d → i < length p
+    → set (take i p ++ drop i d) i (getD p i 0) ≡ take (i + 1) p ++ drop (i + 1) d
+copy-more p d i hd hp =
+    store-behind (take i p) d i (getD p i 0) (length-take-le i p (omega arith)) hd ∙ rw (add-one i, take-suc p i 0 hp)
+
+pub over-set : (k v : ℕ) (xs lent : List ℕ) → length xs ≡ k → k < length lent → set (over xs lent) k v ≡ over (xs ++ (v ∷ [])) lent
+over-set k v xs lent e h = rw (length-append xs (v ∷ []), e) (store-behind xs lent k v e h)
+
+pub take-over : (k : ℕ) (xs lent : List ℕ) → length xs ≡ k → take k (over xs lent) ≡ xs
+take-over k xs lent e = take-at xs (drop (length xs) lent) k e
 
 -- ---- what is said of each
 
@@ -50,6 +100,28 @@ each-head P x xs e = e .0
 pub each-rest : {A : Type 0} (P : A → Type 0) (x : A) (xs : List A) → Each P (x ∷ xs) → Each P xs
 unfolding Each
 each-rest P x xs e = e .1
+
+-- ---- one for which a test says yes, looked for from the front: what a place settles, and what it leaves to the places behind it
+
+module _ {A : Type 0} (test : A → Bool) where
+  pub some-done : (xs : List A) (i : ℕ) → length xs ≤ i → someOf test (drop i xs) ≡ false
+  unfolding someOf
+  some-done xs i h = rw (drop-of-length-le xs {i = i} h)
+
+  module _ (xs : List A) (i : ℕ) (a : A) (h : i < length xs) where
+    pub some-here : test (getD xs i a) ≡ true → someOf test (drop i xs) ≡ true
+    unfolding someOf
+    some-here t = rw (drop-cons xs i a h, t)
+
+    pub some-behind : test (getD xs i a) ≡ false → someOf test (drop i xs) ≡ someOf test (drop (i + 1) xs)
+    unfolding someOf
+    some-behind t = rw (add-one, drop-cons xs i a h, t)
+
+  pub none-at : (xs : List A) (i : ℕ) (a : A) → i < length xs → someOf test xs ≡ false → test (getD xs i a) ≡ false
+  unfolding someOf
+  none-at [] i a h e = absurd (omega arith)
+  none-at (x ∷ xs) zero a h e = neither (test x) e .0
+  none-at (x ∷ xs) (suc i) a h e = none-at xs i a (omega arith) (neither (test x) e .1)
 
 -- ---- the first for which a test says yes
 
@@ -189,19 +261,22 @@ module _ {A : Type 0} (R : A → A → Type 0) (asymmetric : (a b : A) → R a b
       omega arith)
       (List·Memᴰ·cases-cons (u x (List·Memᴰ·head refl)))
 
--- ---- the first number that isn't 0
+-- ---- the first number that isn't 0: a table's lines, met from the top
 
 pub number-passed : (k : ℕ) (ks : List ℕ) → k ≡ 0 → firstNumber (k ∷ ks) ≡ firstNumber ks
 unfolding firstNumber
 number-passed k ks e = rw (eq-eqb k 0 e)
 
-pub number-met : (k : ℕ) (ks : List ℕ) → (k ≡ 0 → ⊥) → firstNumber (k ∷ ks) ≡ k
+pub number-met : (k : ℕ) (ks : List ℕ) (r : ℕ) → k ≡ r → (r ≡ 0 → ⊥) → firstNumber (k ∷ ks) ≡ r
 unfolding firstNumber
-number-met k ks n = go (eqb k 0) refl
-  where
-    go : (b : Bool) → eqb k 0 ≡ b → cond b (firstNumber ks) k ≡ k
-    go true e = absurd (n (eqb-true k 0 e))
-    go false e = refl
+number-met k ks r e n = rw (e, ne-eqb r 0 n)
+
+-- the second line
+pub second-met : (j k : ℕ) (ks : List ℕ) (r : ℕ) → j ≡ 0 → k ≡ r → (r ≡ 0 → ⊥) → firstNumber (j ∷ k ∷ ks) ≡ r
+second-met j k ks r f e n = number-passed j (k ∷ ks) f ∙ number-met k ks r e n
+
+pub two-passed : (j k : ℕ) (ks : List ℕ) → j ≡ 0 → k ≡ 0 → firstNumber (j ∷ k ∷ ks) ≡ firstNumber ks
+two-passed j k ks f e = number-passed j (k ∷ ks) f ∙ number-passed k ks e
 
 pub number-last : (k : ℕ) → firstNumber (k ∷ []) ≡ k
 unfolding firstNumber

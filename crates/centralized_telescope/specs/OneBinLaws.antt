@@ -3,7 +3,7 @@
 use mathlib.Core.Path.{_≡_, refl, ap, _∙_}
 use mathlib.Core.Bool.{Bool, true, false, cond}
 use mathlib.Core.List.{List, [], _∷_, _++_}
-use mathlib.Core.Option.{Option, none, some}
+use mathlib.Core.Option.{none, some}
 use Prim.Native.Nat.{ℕ, zero, suc, _+_, _*_, min}
 use native.Mathlib.Omega.{arith}
 use borrow.Author.Tests.{lt-leb, le-ltb}
@@ -13,8 +13,9 @@ use lib.Ieee.{fin, isNan, lt}
 use lib.ListN.{length, take, length-append}
 use Rattle.sampling.specs.BigEndian.{bigEndian}
 use Rattle.sampling.specs.Fips180.{sha256}
-use Rattle.sampling.specs.Sample.{outsideUnit, threshold, thresholdOrRefusal}
+use Rattle.sampling.specs.Sample.{outside, threshold, thresholdOrRefusal}
 use Rattle.centralized_telescope.specs.declared.params.Params.{Params}
+use Rattle.centralized_telescope.specs.TestLaws.{either-way}
 use Rattle.centralized_telescope.specs.Elements.{Element}
 use Rattle.centralized_telescope.specs.Lists.{firstOf, upToFirst}
 use Rattle.centralized_telescope.specs.Rounds.{proofLabel, startHash, saysYes, belowX}
@@ -40,10 +41,6 @@ module _ {A : Type 0} (test : A → Bool) (never : (x : A) → test x ≡ false)
   unfolding upToFirst
   all-counted [] = refl
   all-counted (x ∷ xs) = rw (never x) (omega (arith, all-counted xs))
-
-either-none : {A : Type 0} (t : Bool) → _≡_ {A = Option A} (cond t none none) none
-either-none true = refl
-either-none false = refl
 
 -- no first is within a bound of 0
 none-within : {A : Type 0} (test : A → Bool) (xs : List A) → cond (leb (upToFirst test xs) 0) (firstOf test xs) none ≡ none
@@ -98,11 +95,7 @@ module _ (T : Try) (one : T .settings .«set_size» ≡ 1) where
   module _ (no : (h : List ℕ) → saysYes (T .settings .q) h ≡ false) where
     passing-never : (c : Chain) → passing T c ≡ false
     unfolding passing
-    passing-never c = rw (no (c .last)) (go (eqb (length (c .places)) (T .settings .«proof_size»)))
-      where
-        go : (t : Bool) → cond t false false ≡ false
-        go true = refl
-        go false = refl
+    passing-never c = rw (no (c .last)) (either-way (eqb (length (c .places)) (T .settings .«proof_size»)) false)
 
     pub count-whole : tryCount T ≡ min (T .settings .«search_width» * treeSize (length (T .kept)) (T .settings .«proof_size»)) (T .settings .«dfs_bound»)
     unfolding tryCount
@@ -111,7 +104,7 @@ module _ (T : Try) (one : T .settings .«set_size» ≡ 1) where
     pub none-found : tryFinds T ≡ none
     unfolding tryFinds
     none-found =
-        rw (first-never (passing T) passing-never (existing T)) (either-none (leb (upToFirst (passing T) (existing T)) (T .settings .«dfs_bound»)))
+        rw (first-never (passing T) passing-never (existing T)) (either-way (leb (upToFirst (passing T) (existing T)) (T .settings .«dfs_bound»)) none)
 
 -- ---- tries of which none finds: all are made
 
@@ -139,7 +132,7 @@ no-width T W =
     ap
     (λ (w : ℕ). cond (leb (upToFirst (passing T) (chainsFrom T w 0)) (T .settings .«dfs_bound»)) (firstOf (passing T) (chainsFrom T w 0)) none)
     W
-    ∙ either-none (leb (upToFirst (passing T) (chainsFrom T 0 0)) (T .settings .«dfs_bound»))
+    ∙ either-way (leb (upToFirst (passing T) (chainsFrom T 0 0)) (T .settings .«dfs_bound»)) none
 
 no-bound : (T : Try) → T .settings .«dfs_bound» ≡ 0 → tryFinds T ≡ none
 unfolding tryFinds
@@ -166,5 +159,5 @@ none-below h = go (bigEndian 16 (take 16 (sha256 (proofLabel ++ h))))
     go i = le-ltb i 0 (omega arith)
 
 pub never-yes : (h : List ℕ) → saysYes (fin false 0 (pos 0)) h ≡ false
-unfolding outsideUnit threshold thresholdOrRefusal isNan lt
+unfolding outside threshold thresholdOrRefusal isNan lt
 never-yes h = yes-below (fin false 0 (pos 0)) 0 h refl ∙ none-below h

@@ -3,8 +3,8 @@ use mathlib.Core.Bool.{Bool, false, cond, _||_}
 use Prim.Native.Nat.{ℕ, _+_, _-_, _*_, _/_, _%_, _^_}
 use lib.IntN.{pos}
 use lib.Dec.{ltb, eqb}
-use lib.Ieee.{Float, nan, inf, fin, binary64, up, down, isNan, lt, round, ofInt, add, mul, div}
-use Rattle.sampling.specs.Sample.{valueOf, thresholdOrRefusal}
+use lib.Ieee.{Float, nan, inf, fin, binary64, up, down, round, ofInt, add, mul, div}
+use Rattle.sampling.specs.Sample.{outside, valueOf, thresholdOrRefusal}
 use Rattle.centralized_telescope.specs.declared.params.Params.{Params}
 use Rattle.centralized_telescope.specs.declared.params.Checked.{Checked}
 use Rattle.centralized_telescope.specs.declared.params.SmallSettings.{SmallSettings}
@@ -62,10 +62,6 @@ whole n = ofInt binary64 (pos n)
 -- 01, Small-case settings: "L is the double nearest 2.48490664978800031023"
 unfoldable pub L : Float
 L = round binary64 false 248490664978800031023 (10 ^ 20)
-
--- x is a NaN, below 0 or above the whole number hi. Negative zero is not below 0
-unfoldable pub outside : ℕ → Float → Bool
-outside hi x = isNan x || (lt x (fin false 0 (pos 0)) || lt (fin false hi (pos 0)) x)
 
 -- The greatest whole number that isn't above x, and the least that isn't below it, for a finite x that isn't below 0:
 -- x is m * 2 ^ e, with 2 ^ e as up e / down e

@@ -1,29 +1,22 @@
 -- Laws of the settings' definitions. A caller that cites these opens none of the definitions.
-use mathlib.Core.Path.{_≡_, refl, sym, ap, _∙_, subst}
-use mathlib.Core.Bool.{Bool, true, false, _||_}
+use mathlib.Core.Path.{_≡_, refl, sym, ap, _∙_}
+use mathlib.Core.Bool.{Bool, true, false}
 use Prim.Native.Nat.{ℕ, _-_, _^_, _≤_, _<_}
 use native.Mathlib.Omega.{arith}
 use borrow.Author.Tests.{le-ltb, ltb-false}
-use lib.Dec.{T, ltb}
+use lib.Dec.{ltb}
 use Rattle.sampling.specs.Sample.{outsideUnit, threshold, thresholdOrRefusal}
 use Rattle.sampling.specs.SampleLaws.{threshold-refused, threshold-at}
 use Rattle.centralized_telescope.specs.declared.params.Params.{Params}
+use Rattle.centralized_telescope.specs.TestLaws.{neither}
 use Rattle.centralized_telescope.specs.Params.{notOneTo, setSizeOut, limitBroken, checked}
 
--- ---- tests joined by "or"
-
-pub neither : (a b : Bool) → a || b ≡ false → (a ≡ false) × (b ≡ false)
-neither true b e = absurd (subst T e tt)
-neither false b e = (refl, e)
+-- ---- a range
 
 module _ {hi n : ℕ} where
   pub one-to : notOneTo hi n ≡ false → (1 ≤ n) × (n ≤ hi)
   unfolding notOneTo
-  one-to e = let b = neither (ltb n 1) (ltb hi n) e in (ltb-false n 1 (b .0), ltb-false hi n (b .1))
-
-  pub is-one-to : 1 ≤ n → n ≤ hi → notOneTo hi n ≡ false
-  unfolding notOneTo
-  is-one-to l h = rw (le-ltb n 1 l, le-ltb hi n h)
+  one-to e = let b = neither (ltb n 1) e in (ltb-false n 1 (b .0), ltb-false hi n (b .1))
 
 -- ---- the check
 
@@ -41,13 +34,17 @@ pub record Lawful (p : Params) (x : ℕ) : Type 0 where
   pub unit : outsideUnit (p .q) ≡ false
   pub threshold-is : x ≡ threshold (p .q)
 
+-- the number of an answer with X, alone
+pub number-alone : {a : ℕ × ℕ} {k x : ℕ} → a ≡ (k, x) → a .0 ≡ k
+number-alone e = ap (λ (a : ℕ × ℕ). a .0) e
+
 module _ (p : Params) where
   pub limits-kept : limitBroken p ≡ false → Limits p
   unfolding limitBroken
   limits-kept e =
-      let a = neither (ltb 1024 (p .«proof_size»)) _ e in
-      let b = neither (ltb 65535 (p .«max_retries»)) _ (a .1) in
-      let c = neither (ltb (2 ^ 32 - 1) (p .«search_width»)) (ltb (2 ^ 48) (p .«dfs_bound»)) (b .1) in
+      let a = neither (ltb 1024 (p .«proof_size»)) e in
+      let b = neither (ltb 65535 (p .«max_retries»)) (a .1) in
+      let c = neither (ltb (2 ^ 32 - 1) (p .«search_width»)) (b .1) in
       record {
         proof-size = ltb-false 1024 (p .«proof_size») (a .0);
         max-retries = ltb-false 65535 (p .«max_retries») (b .0);

@@ -1,16 +1,16 @@
 -- Document 01, Search and 'Lent and given back': the prover's answer, and each lent buffer afterwards.
 use mathlib.Core.Bool.{Bool, cond, _||_}
-use mathlib.Core.List.{List, [], _∷_, _++_}
+use mathlib.Core.List.{List, [], _∷_}
 use mathlib.Core.Option.{Option, none, some}
 use Prim.Native.Nat.{ℕ, zero, suc, _+_, _*_}
 use lib.Dec.{ltb, leb, eqb}
-use lib.ListN.{length, drop}
+use lib.ListN.{length}
 use Rattle.centralized_telescope.specs.declared.params.Params.{Params}
 use Rattle.centralized_telescope.specs.declared.proof.ProofSearch.{ProofSearch}
 use Rattle.centralized_telescope.specs.declared.proof.ProofSearch.the-variants as answer
 use Rattle.centralized_telescope.specs.Params.{checked}
 use Rattle.centralized_telescope.specs.Elements.{Element, elements, listCheck}
-use Rattle.centralized_telescope.specs.Lists.{firstNumber}
+use Rattle.centralized_telescope.specs.Lists.{over, firstNumber}
 use Rattle.centralized_telescope.specs.Bins.{binTable}
 use Rattle.centralized_telescope.specs.Chains.{Chain, tryOf}
 use Rattle.centralized_telescope.specs.Search.{binsOf, searched}
@@ -41,7 +41,7 @@ answered p (some c) R count places table = record {
   retry = R;
   search = c .search;
   count = count;
-  places = c .places ++ drop (length (c .places)) places;
+  places = over (c .places) places;
   table = table;
 }
 answered p none R count places table = record {

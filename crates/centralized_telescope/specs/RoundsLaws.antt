@@ -8,24 +8,13 @@ use native.Mathlib.Omega.{arith}
 use borrow.Author.Tests.{eqb-true}
 use lib.Dec.{eqb, ltb}
 use lib.Ieee.{Float}
-use lib.ListN.{length, take}
+use lib.ListN.{take}
 use Rattle.sampling.specs.BigEndian.{bigEndian}
 use Rattle.sampling.specs.Fips180.{sha256}
-use Rattle.sampling.specs.HashLaws.{length-sha256}
 use Rattle.sampling.specs.Sample.{uniform, thresholdOrRefusal}
 use Rattle.sampling.specs.SampleLaws.{drawn-below, drawn-of-one, bernoulli-at}
 use Rattle.centralized_telescope.specs.Elements.{Element}
-use Rattle.centralized_telescope.specs.Rounds.{proofLabel, startHash, nextHash, drawn, drawnBelow, binOf, saysYes, belowX}
-
--- ---- a hash is 32 bytes
-
-pub length-startHash : (R S : ℕ) → length (startHash R S) ≡ 32
-unfolding startHash
-length-startHash R S = length-sha256 _
-
-pub length-nextHash : (h : List ℕ) (e : Element) → length (nextHash h e) ≡ 32
-unfolding nextHash
-length-nextHash h e = length-sha256 _
+use Rattle.centralized_telescope.specs.Rounds.{proofLabel, drawn, drawnBelow, binOf, saysYes, belowX}
 
 -- ---- what is drawn is below n, and with n = 1 it is 0
 

@@ -9,11 +9,12 @@ use borrow.Author.Tests.{ltb-false, le-ltb, eqb-false}
 use lib.Dec.{T, ltb, eqb}
 use lib.Ieee.{Float, nan, inf, fin, binary64, up, down, isNan, lt, ofBits, ofInt, round, add, mul, div}
 use lib.Ieee.Fits.{up-pos, and-l, and-r}
-use Rattle.sampling.specs.Sample.{outsideUnit, threshold}
+use Rattle.sampling.specs.Sample.{outside, outsideUnit, threshold}
 use Rattle.centralized_telescope.specs.declared.params.Params.{Params}
 use Rattle.centralized_telescope.specs.declared.params.SmallSettings.{SmallSettings}
-use Rattle.centralized_telescope.specs.Params.{setSizeOut, checked, outside, floor, ceil, whole, L, beforeCeil, searchWidth, probability, beforeFloor, dfsBound, smallSettings, zeros, proofSizeOut, completenessOut, smallCase}
-use Rattle.centralized_telescope.specs.ParamsLaws.{neither, one-to, Limits, passes}
+use Rattle.centralized_telescope.specs.Params.{setSizeOut, checked, floor, ceil, whole, L, beforeCeil, searchWidth, probability, beforeFloor, dfsBound, smallSettings, zeros, proofSizeOut, completenessOut, smallCase}
+use Rattle.centralized_telescope.specs.TestLaws.{neither}
+use Rattle.centralized_telescope.specs.ParamsLaws.{one-to, Limits, passes}
 
 -- ---- the small case, by its tests in the table's order
 
@@ -53,10 +54,10 @@ inside hi nan o = absurd (subst T o tt)
 inside hi (inf true) o = absurd (subst T o tt)
 inside hi (inf false) o = absurd (subst T o tt)
 inside hi (fin true m e) o =
-    let l = ltb-false 0 (m * up e * 1 + 0 * down e) (neither (ltb 0 (m * up e * 1 + 0 * down e)) false o .0) in
+    let l = ltb-false 0 (m * up e * 1 + 0 * down e) (neither (ltb 0 (m * up e * 1 + 0 * down e)) {b = false} o .0) in
     (λ _. none m (up e) (up-pos e) (omega arith), omega arith)
 inside hi (fin false m e) o =
-    let l = ltb-false (hi * 1 * down e) (m * up e * 1) (neither (ltb (m * up e * 1) (0 * down e)) (ltb (hi * 1 * down e) (m * up e * 1)) o .1) in
+    let l = ltb-false (hi * 1 * down e) (m * up e * 1) (neither (ltb (m * up e * 1) (0 * down e)) o .1) in
     (λ t. absurd (subst T (sym t) tt), omega arith)
 
 pub wider : (lo hi : ℕ) (x : Float) → lo ≤ hi → outside lo x ≡ false → outside hi x ≡ false
@@ -66,7 +67,7 @@ wider lo hi (inf true) h o = o
 wider lo hi (inf false) h o = o
 wider lo hi (fin true m e) h o = o
 wider lo hi (fin false m e) h o =
-    let b = neither (ltb (m * up e * 1) (0 * down e)) (ltb (lo * 1 * down e) (m * up e * 1)) o in
+    let b = neither (ltb (m * up e * 1) (0 * down e)) o in
     let l = ltb-false (lo * 1 * down e) (m * up e * 1) (b .1) in
     rw (b .0, le-ltb (hi * 1 * down e) (m * up e * 1) (le-trans l (mul-le-mul-right (down e) (mul-le-mul-right 1 h))))
 
@@ -105,7 +106,7 @@ passesUpTo zero = true
 passesUpTo (suc k) = passesAt (suc k) && passesUpTo k
 
 computed : T (passesUpTo 1024)
-unfolding isNan lt ofInt round add mul div outside ceil whole L beforeCeil searchWidth probability beforeFloor outsideUnit passesUpTo
+unfolding isNan lt ofInt round add mul div outside ceil whole L beforeCeil searchWidth probability beforeFloor passesUpTo
 computed = tt
 
 from-computed : (k : ℕ) → T (passesUpTo k) → (u : ℕ) → 1 ≤ u → u ≤ k → T (passesAt u)

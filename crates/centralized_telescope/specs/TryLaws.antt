@@ -4,10 +4,10 @@ use mathlib.Core.List.{List, List·Memᴰ}
 use mathlib.Core.Option.{Option, none, some, Option·getD}
 use Prim.Native.Nat.{ℕ, _<_}
 use native.Mathlib.Omega.{arith}
-use lib.ListN.{length, getD}
+use lib.ListN.{length, getD, length-map}
 use Rattle.centralized_telescope.specs.Elements.{Element, elementAt}
 use Rattle.centralized_telescope.specs.Lists.{Pairwise}
-use Rattle.centralized_telescope.specs.ListsLaws.{length-map, getD-map}
+use Rattle.centralized_telescope.specs.ListsLaws.{getD-map}
 use Rattle.centralized_telescope.specs.Rounds.{binOf}
 use Rattle.centralized_telescope.specs.RoundsLaws.{drawnBelow-below}
 use Rattle.centralized_telescope.specs.BinsLaws.{place-in-bin, bin-has-place, places-ascend}
@@ -22,7 +22,7 @@ bin-not-none (some b) n i l e = ap some e
 module _ (n R : ℕ) (kept : List Element) where
   pub length-binList : length (binList n R kept) ≡ length kept
   unfolding binList
-  length-binList = length-map (λ (e : Element). Option·getD (binOf n R e) n) kept
+  length-binList = length-map kept (λ (e : Element). Option·getD (binOf n R e) n)
 
   pub binList-at : (place : ℕ) → place < length kept → getD (binList n R kept) place 0 ≡ Option·getD (binOf n R (elementAt kept place)) n
   unfolding binList elementAt

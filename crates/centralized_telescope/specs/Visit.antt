@@ -5,7 +5,7 @@ use mathlib.Core.Bool.{cond}
 use mathlib.Core.List.{List, _++_}
 use Prim.Native.Nat.{ℕ, _+_, _-_, _≤_}
 use lib.Dec.{ltb}
-use lib.ListN.{length, drop, getD}
+use lib.ListN.{getD}
 use Rattle.centralized_telescope.specs.declared.params.Params.{Params}
 use Rattle.centralized_telescope.specs.declared.proof.Outcome.{Outcome}
 use Rattle.centralized_telescope.specs.declared.proof.Outcome.the-variants as outcome
@@ -13,6 +13,7 @@ use Rattle.centralized_telescope.specs.declared.proof.Attempt.{Attempt}
 use Rattle.centralized_telescope.specs.declared.proof.Attempt.the-variants as attempt
 use Rattle.centralized_telescope.specs.Params.{checked}
 use Rattle.centralized_telescope.specs.Elements.{elements, listCheck}
+use Rattle.centralized_telescope.specs.Lists.{over}
 use Rattle.centralized_telescope.specs.Bins.{tableOf}
 use Rattle.centralized_telescope.specs.Chains.{Try, tryOf, Chain}
 use Rattle.centralized_telescope.specs.Search.{binsOf, along, chains, chainsFrom, passing}
@@ -49,7 +50,7 @@ attemptOf (found count c) = attempt.Found (record { 0 = c .search }) count
 attemptOf (missing count) = attempt.Missing count
 
 unfoldable pub written : Ended Chain → List ℕ → List ℕ
-written (found count c) places = c .places ++ drop (length (c .places)) places
+written (found count c) places = over (c .places) places
 written (missing count) places = places
 
 -- after a visit: a chain of full length is written by the walk that led to it

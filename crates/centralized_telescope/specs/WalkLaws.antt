@@ -2,11 +2,12 @@
 use mathlib.Core.Path.{_≡_, refl, ap, sym, _∙_}
 use mathlib.Core.Bool.{Bool, true, false, cond}
 use mathlib.Core.List.{List, [], _∷_, _++_, List·Memᴰ, List·Memᴰ·head, List·Memᴰ·tail}
-use mathlib.Core.Option.{Option, none, some}
+use mathlib.Core.Option.{none, some}
 use Prim.Native.Nat.{ℕ, _+_, _≤_, min}
 use native.Mathlib.Omega.{arith}
 use borrow.Author.Tests.{ltb-true, ltb-false, le-ltb, le-leb, lt-leb}
 use lib.Dec.{ltb, leb}
+use Rattle.centralized_telescope.specs.TestLaws.{either-way}
 use Rattle.centralized_telescope.specs.Lists.{firstOf, upToFirst}
 use Rattle.centralized_telescope.specs.Chains.{Try, Chain}
 use Rattle.centralized_telescope.specs.Search.{existing, passing, tryCount, tryFinds}
@@ -38,11 +39,7 @@ module _ {A : Type 0} (test : A → Bool) (bound : ℕ) where
   pub walk-finds : (count : ℕ) (xs : List A) → count ≤ bound
       → find (walk test bound count xs) ≡ cond (leb (count + upToFirst test xs) bound) (firstOf test xs) none
   unfolding walk upToFirst firstOf
-  walk-finds count [] h = sym (either (leb (count + 0) bound))
-    where
-      either : (t : Bool) → _≡_ {A = Option A} (cond t none none) none
-      either true = refl
-      either false = refl
+  walk-finds count [] h = sym (either-way (leb (count + 0) bound) none)
   walk-finds count (x ∷ xs) h = go (ltb count bound) refl (test x) (walk-finds (count + 1) xs)
     where
       go : (w : Bool) → ltb count bound ≡ w → (t : Bool)

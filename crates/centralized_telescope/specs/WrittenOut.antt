@@ -1,12 +1,12 @@
 -- Elements written out as a list in the form in which lists are lent (document 01, Verifier: "A proof is R, S and its elements as a list
 -- in the form above; the prover's places are written out so"), and what `write_proof` answers and leaves in each lent buffer.
-use mathlib.Core.Bool.{Bool, false, cond, _||_}
+use mathlib.Core.Bool.{Bool, cond, _||_}
 use mathlib.Core.List.{List, [], _∷_, _++_, map}
 use Prim.Native.Nat.{ℕ, _+_}
 use lib.Dec.{ltb, leb, eqb}
-use lib.ListN.{length, drop}
+use lib.ListN.{length}
 use Rattle.centralized_telescope.specs.Elements.{Element, elements, elementAt, dataAt, markOf, numberOf, listCheck}
-use Rattle.centralized_telescope.specs.Lists.{firstNumber}
+use Rattle.centralized_telescope.specs.Lists.{someOf, over, firstNumber}
 use Rattle.centralized_telescope.specs.declared.proof_list.Written.{Written}
 use Rattle.centralized_telescope.specs.declared.proof_list.Written.the-variants as w
 
@@ -33,9 +33,8 @@ abbrev pub chosen : List ℕ → List ℕ → List ℕ → List ℕ → List ℕ
 chosen places bytes ends marks indexes = map (elementAt (elements bytes ends marks indexes)) places
 
 -- a place is past a list of `len` elements
-unfoldable pub placeOut : ℕ → List ℕ → Bool
-placeOut len [] = false
-placeOut len (place ∷ places) = leb len place || placeOut len places
+abbrev pub placeOut : ℕ → List ℕ → Bool
+placeOut len places = someOf (leb len) places
 
 -- their data bytes, as the code reads them: `WrittenOutLaws` ties it to `joined`
 unfoldable pub dataOf : List ℕ → List ℕ → List ℕ → List ℕ
@@ -51,10 +50,6 @@ pub record WrittenOut : Type 0 where
   pub ends : List ℕ
   pub marks : List ℕ
   pub indexes : List ℕ
-
--- a lent buffer with numbers written over its first ones, the rest untouched
-unfoldable pub over : List ℕ → List ℕ → List ℕ
-over xs lent = xs ++ drop (length xs) lent
 
 abbrev pub wrote : ℕ → List ℕ → List ℕ → List ℕ → List ℕ → WrittenOut
 wrote len bytes ends marks indexes =

@@ -3,23 +3,18 @@ use mathlib.Core.Path.{_≡_, refl, sym, ap, _∙_}
 use mathlib.Core.Bool.{Bool, true, false, cond, _||_}
 use mathlib.Core.List.{List, [], _∷_, _++_, map, append-assoc}
 use mathlib.Core.Option.{Option, none, some}
-use Prim.Native.Nat.{ℕ, zero, suc, _+_, _-_, _≤_, _<_}
+use Prim.Native.Nat.{ℕ, suc, _+_, _-_, _≤_, _<_}
 use native.Mathlib.Omega.{arith}
 use borrow.Author.Tests.{eq-eqb, eqb-true, leb-false, le-ltb, ltb-false}
 use lib.Dec.{ltb, leb, eqb}
-use lib.ListN.{length, take, drop, getD, length-append}
+use lib.ListN.{length, take, drop, getD, length-append, length-map}
 use lib.Seq.{take-at, drop-at}
+use Rattle.centralized_telescope.specs.TestLaws.{neither}
 use Rattle.centralized_telescope.specs.Elements.{Element, elementsFrom, elements, elementAt, indexOf, markOf, numberOf, markOver, endWrong, malformed, dataLong, tooLarge, listCheck}
 use Rattle.centralized_telescope.specs.ElementsLaws.{data-there, bytes-short}
-use Rattle.centralized_telescope.specs.Lists.{Each}
-use Rattle.centralized_telescope.specs.ListsLaws.{length-map, each-nil, each-cons, number-none}
-use Rattle.centralized_telescope.specs.WrittenOut.{joined, endsFrom, marksOf, indexesOf, chosen, placeOut, dataOf, over, written, unwritten, WrittenOut, writeRefusal, proofWritten}
-
--- ---- what is written over a lent buffer
-
-pub take-over : (k : ℕ) (xs lent : List ℕ) → length xs ≡ k → take k (over xs lent) ≡ xs
-unfolding over
-take-over k xs lent e = take-at xs (drop (length xs) lent) k e
+use Rattle.centralized_telescope.specs.Lists.{Each, someOf}
+use Rattle.centralized_telescope.specs.ListsLaws.{take-over, none-at, each-nil, each-cons, number-none}
+use Rattle.centralized_telescope.specs.WrittenOut.{joined, endsFrom, marksOf, indexesOf, chosen, placeOut, dataOf, written, unwritten, WrittenOut, writeRefusal, proofWritten}
 
 -- ---- a list written out is accepted
 
@@ -29,7 +24,7 @@ length-ends from [] = refl
 length-ends from (e ∷ es) = ap suc (length-ends (from + length (e .bytes)) es)
 
 marks-right : (es : List Element) → markOver (marksOf es) ≡ false
-unfolding markOver
+unfolding someOf
 marks-right [] = refl
 marks-right (e ∷ es) = go (e .index) (marks-right es)
   where
@@ -59,8 +54,8 @@ pub accepted-again : (es : List Element) → length es ≤ 65536 → Each Short 
 unfolding listCheck malformed tooLarge
 accepted-again es few s =
     let N = length-ends 0 es in
-    let M = length-map (λ (e : Element). markOf (e .index)) es in
-    let X = length-map (λ (e : Element). numberOf (e .index)) es in
+    let M = length-map es (λ (e : Element). markOf (e .index)) in
+    let X = length-map es (λ (e : Element). numberOf (e .index)) in
     rw (
       eq-eqb (length (endsFrom 0 es)) (length (marksOf es)) (N ∙ sym M),
       eq-eqb (length (endsFrom 0 es)) (length (indexesOf es)) (N ∙ sym X),
@@ -98,28 +93,21 @@ elements-again es = elements-from [] es
 -- ---- the elements at some places of an accepted list
 
 place-head : (len place : ℕ) {t : Bool} → leb len place || t ≡ false → (place < len) × (t ≡ false)
-place-head len place {t} = go (leb len place) refl
-  where
-    go : (s : Bool) → leb len place ≡ s → s || t ≡ false → (place < len) × (t ≡ false)
-    go true e h = let z : _≡_ {A = ℕ} 0 1 = cc in absurd (omega arith)
-    go false e h = (leb-false len place e, h)
+place-head len place e = let h = neither (leb len place) e in (leb-false len place (h .0), h .1)
 
 pub place-within : (len : ℕ) (places : List ℕ) (i : ℕ) → i < length places → placeOut len places ≡ false → getD places i 0 < len
-unfolding placeOut
-place-within len [] i h e = absurd (omega arith)
-place-within len (place ∷ places) zero h e = place-head len place e .0
-place-within len (place ∷ places) (suc i) h e = place-within len places i (omega arith) (place-head len place e .1)
+place-within len places i h e = leb-false len (getD places i 0) (none-at (leb len) places i 0 h e)
 
 module _ (d n m x : List ℕ) (A : listCheck d n m x ≡ 0) where
   pub chosen-short : (places : List ℕ) → placeOut (length n) places ≡ false → Each Short (chosen places d n m x)
-  unfolding placeOut
+  unfolding someOf
   chosen-short [] e = each-nil Short
   chosen-short (place ∷ places) e =
       let p = place-head (length n) place e in
       each-cons Short (elementAt (elements d n m x) place) (chosen places d n m x) (bytes-short d n m x A place (p .0)) (chosen-short places (p .1))
 
   pub data-joined : (places : List ℕ) → placeOut (length n) places ≡ false → dataOf d n places ≡ joined (chosen places d n m x)
-  unfolding placeOut dataOf joined
+  unfolding someOf dataOf joined
   data-joined [] e = refl
   data-joined (place ∷ places) e =
       let p = place-head (length n) place e in
@@ -168,19 +156,19 @@ module _ (places d n m x b′ n′ m′ x′ : List ℕ) where
           → E (take (r .len) (r .bytes)) (take (length places) (r .ends)) (take (length places) (r .marks)) (take (length places) (r .indexes))
       unfolding written
       parts h =
-          let K = length-map (elementAt (elements d n m x)) places in
+          let K = length-map places (elementAt (elements d n m x)) in
           rw (
             is-written,
             take-over (length (joined es)) (joined es) b′ refl,
             take-over (length places) (endsFrom 0 es) n′ (length-ends 0 es ∙ K),
-            take-over (length places) (marksOf es) m′ (length-map (λ (e : Element). markOf (e .index)) es ∙ K),
-            take-over (length places) (indexesOf es) x′ (length-map (λ (e : Element). numberOf (e .index)) es ∙ K),
+            take-over (length places) (marksOf es) m′ (length-map es (λ (e : Element). markOf (e .index)) ∙ K),
+            take-over (length places) (indexesOf es) x′ (length-map es (λ (e : Element). numberOf (e .index)) ∙ K),
           ) h
 
     pub written-accepted : listCheck (take (r .len) (r .bytes)) (take (length places) (r .ends)) (take (length places) (r .marks)) (take (length places) (r .indexes)) ≡ 0
     written-accepted =
         parts (λ (b e k i : List ℕ). listCheck b e k i ≡ 0)
-        (accepted-again es (omega (arith, refusals .1, length-map (elementAt (elements d n m x)) places)) (chosen-short d n m x (refusals .0) places (refusals .2)))
+        (accepted-again es (omega (arith, refusals .1, length-map places (elementAt (elements d n m x)))) (chosen-short d n m x (refusals .0) places (refusals .2)))
 
     pub written-elements : elements (take (r .len) (r .bytes)) (take (length places) (r .ends)) (take (length places) (r .marks)) (take (length places) (r .indexes))
         ≡ map (elementAt (elements d n m x)) places

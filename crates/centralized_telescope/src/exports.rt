@@ -1,9 +1,8 @@
 // The verifier as C and Rust call it: settings one by one, ends and indexes as lent bytes, and the answer is a number.
 ghost use mathlib.Core.Path.{_≡_};
 ghost use mathlib.Core.Bool.{_||_};
-ghost use Prim.Native.Nat.{_+_, _/_, _^_, _<_, _≤_};
-ghost use lib.ListN.{length, drop, getD};
-ghost use Rattle.sampling.specs.BigEndian.{bigEndian};
+ghost use Prim.Native.Nat.{_+_, _/_, _<_, _≤_};
+ghost use lib.ListN.{length, getD};
 ghost use Rattle.sampling.specs.Sample.{valueOf, thresholdOrRefusal};
 ghost use Rattle.centralized_telescope.specs.Elements.{elements, endWrong, dataLong, listCheck, listNumber};
 ghost use Rattle.centralized_telescope.specs.Verifier.{judged, verdictNumber};
@@ -19,6 +18,7 @@ use crate::telescope::list_verdict;
 use crate::telescope::settings_verdict;
 use crate::types::ListCheck;
 use crate::types::list_answer;
+use crate::types::number;
 use crate::types::some_data_long;
 use crate::types::some_end_wrong;
 use crate::types::some_mark_over;
@@ -30,20 +30,6 @@ pub struct EndsFound {
     pub wrong: bool,
     // an element has over 4,096 data bytes
     pub long: bool,
-}
-
-// The number that k bytes make, the most significant first.
-fn number(bytes: &[u8], at: usize, k: usize) -> u64
-    requires { ⌜ (at + k ≤ length (now bytes)) × (k ≤ 8) ⌝ }
-    ensures { λ r. ⌜ (r ≡ bigEndian k (drop at (now (bytes .entry)))) × (r < 256 ^ k) ⌝ }
-{
-    let mut v: u64 = 0;
-    let mut i = 0;
-    while i < k {
-        v = v * 256 + bytes[at + i] as u64;
-        i += 1;
-    }
-    v
 }
 
 // The end at a place.

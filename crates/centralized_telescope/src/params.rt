@@ -5,7 +5,8 @@ use sampling::Words;
 ghost use mathlib.Core.Path.{_≡_};
 ghost use mathlib.Core.Bool.{false};
 ghost use Prim.Native.Nat.{_^_};
-ghost use Rattle.centralized_telescope.specs.Params.{notOneTo, proofSizeOut, limitBroken, checked, checkedNumber, outside, completenessOut, floor, ceil, smallSettings, smallCase, smallCaseNumber};
+ghost use Rattle.sampling.specs.Sample.{outside};
+ghost use Rattle.centralized_telescope.specs.Params.{notOneTo, proofSizeOut, limitBroken, checked, checkedNumber, completenessOut, floor, ceil, smallSettings, smallCase, smallCaseNumber};
 
 // What prover and verifier are told.
 pub struct Params {

@@ -1,8 +1,9 @@
 // Elements as they are lent: data bytes, ends, marks and indexes. All that is known of a lent list elsewhere comes from here.
 ghost use mathlib.Core.Path.{_≡_};
 ghost use mathlib.Core.Bool.{false};
-ghost use Prim.Native.Nat.{_<_, _≤_};
-ghost use lib.ListN.{length, take};
+ghost use Prim.Native.Nat.{_+_, _^_, _<_, _≤_, min};
+ghost use lib.ListN.{length, take, drop};
+ghost use Rattle.sampling.specs.BigEndian.{bigEndian};
 ghost use Rattle.centralized_telescope.specs.Elements.{markOver, endWrong, dataLong, foundNumber, listCheck, listNumber, startAt, dataAt, indexAt, indexBytes, markOf, numberOf};
 use sampling::eight_bytes;
 
@@ -71,6 +72,30 @@ pub fn wide(x: u32) -> usize
     ensures { λ r. ⌜ (r ≡ x) × (r < 4294967296) ⌝ }
 {
     x as usize
+}
+
+// The lower of two numbers.
+pub fn least(a: usize, b: usize) -> usize
+    ensures { λ r. ⌜ r ≡ min a b ⌝ }
+{
+    if a < b {
+        return a;
+    }
+    b
+}
+
+// The number that k bytes make, the most significant first.
+pub fn number(bytes: &[u8], at: usize, k: usize) -> u64
+    requires { ⌜ (at + k ≤ length (now bytes)) × (k ≤ 8) ⌝ }
+    ensures { λ r. ⌜ (r ≡ bigEndian k (drop at (now (bytes .entry)))) × (r < 256 ^ k) ⌝ }
+{
+    let mut v: u64 = 0;
+    let mut i = 0;
+    while i < k {
+        v = v * 256 + bytes[at + i] as u64;
+        i += 1;
+    }
+    v
 }
 
 // The answer by what is found in a list, lengths and faults. Any fault that is number 4, anywhere in the list, comes before any that is 5.

@@ -8,15 +8,9 @@ use centralized_telescope::ProofSearch;
 use centralized_telescope::RetryCounter;
 use centralized_telescope::SearchCounter;
 use centralized_telescope::Verdict;
-use libc::STDOUT_FILENO;
-
-fn say(text: &[u8]) {
-    io::write_all(STDOUT_FILENO, text);
-}
-
-fn say_number(n: u64) {
-    io::print_decimal(STDOUT_FILENO, n);
-}
+use text::one_if;
+use text::say::say;
+use text::say::say_number;
 
 // One bin, and in it one element: a chain of each length, which the bound just admits. The verifier wants R below max_retries.
 fn settings() -> Params {
@@ -28,12 +22,6 @@ fn settings() -> Params {
         dfs_bound: 1025,
         q: 1.0,
     }
-}
-
-fn one_if(is_so: bool) -> usize
-    ensures { λ r. ⌜ r ≤ 1 ⌝ }
-{
-    if is_so { 1 } else { 0 }
 }
 
 // How many of the places are the first one.

@@ -1,13 +1,14 @@
 -- The exported calls by their tests.
 use mathlib.Core.Path.{_≡_, ap, _∙_}
 use mathlib.Core.Bool.{Bool}
-use mathlib.Core.List.{List, [], _∷_, _++_, append-nil}
+use mathlib.Core.List.{List, [], _∷_, _++_}
 use Prim.Native.Nat.{ℕ}
 use native.Mathlib.Omega.{arith}
 use borrow.Author.Tests.{eq-eqb, ne-eqb}
 use lib.Ieee.{Float}
 use lib.ListN.{length, take, drop, set, drop-of-length-le}
-use lib.Seq.{take-all, sets-eq}
+use lib.Seq.{sets-eq}
+use Rattle.sampling.specs.CommonLaws.{copied}
 use Rattle.sampling.specs.Hash.{hashed}
 use Rattle.centralized_telescope.specs.Distinct.{distinct}
 use Rattle.centralized_telescope.specs.Params.{smallCase}
@@ -22,8 +23,7 @@ pub served : (m out last digest : List ℕ) (k : ℕ) → length digest ≡ 32 �
     → last ≡ take (length digest) digest ++ drop (length digest) out → (k, last) ≡ exportedHash m out
 unfolding exportedHash
 served m out last digest k l h e p =
-    let whole : last ≡ digest = p ∙ rw (take-all (length digest) digest (omega arith), drop-of-length-le out {i = length digest} (omega arith), append-nil digest) in
-    rw (eq-eqb (length out) 32 h) (ap (λ (b : List ℕ). (k, b)) whole ∙ e)
+    rw (eq-eqb (length out) 32 h) (ap (λ (b : List ℕ). (k, b)) (p ∙ copied digest out (omega arith)) ∙ e)
 
 -- ---- the small case
 

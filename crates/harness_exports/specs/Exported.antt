@@ -42,19 +42,7 @@ exportedDistinct bytes ends marks indexes = said (distinct bytes ends marks inde
 
 -- ---- the prover
 
-abbrev pub settings : ℕ → ℕ → ℕ → ℕ → ℕ → Float → Params
-settings setSize proofSize maxRetries searchWidth dfsBound q = record {
-  «set_size» = setSize;
-  «proof_size» = proofSize;
-  «max_retries» = maxRetries;
-  «search_width» = searchWidth;
-  «dfs_bound» = dfsBound;
-  q = q;
-}
-
-abbrev pub refusalOf : ℕ → Numbers
-refusalOf k = record { number = k; retry = 0; search = 0; count = 0 }
-
+-- an answer that has no proof: a refusal, whose count is 0, or the end of the search
 abbrev pub withoutProof : ℕ → ℕ → Numbers
 withoutProof k count = record { number = k; retry = 0; search = 0; count = count }
 

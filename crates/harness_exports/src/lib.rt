@@ -5,7 +5,8 @@ ghost use mathlib.Core.List.{_++_};
 ghost use lib.Dec.{T};
 ghost use lib.Ieee.{isNan};
 ghost use lib.ListN.{length};
-ghost use Rattle.harness_exports.specs.Exported.{exportedHash, five, exportedSmallCase, exportedDistinct, refusalOf, withoutProof, numbersOf, withCounters, settings, exportedProve};
+ghost use Rattle.centralized_telescope.specs.Exports.{settingsOf};
+ghost use Rattle.harness_exports.specs.Exported.{exportedHash, five, exportedSmallCase, exportedDistinct, withoutProof, numbersOf, withCounters, exportedProve};
 use centralized_telescope::Distinctness;
 use centralized_telescope::Params;
 use centralized_telescope::ProofSearch;
@@ -86,17 +87,6 @@ pub struct Numbers {
     pub count: u64,
 }
 
-fn refusal(number: u32) -> Numbers
-    ensures { λ r. ⌜ r ≡ refusalOf number ⌝ }
-{
-    Numbers {
-        number,
-        retry: 0,
-        search: 0,
-        count: 0,
-    }
-}
-
 fn without_proof(number: u32, count: u64) -> Numbers
     ensures { λ r. ⌜ r ≡ withoutProof number count ⌝ }
 {
@@ -120,13 +110,13 @@ fn numbers_of(answer: ProofSearch) -> Numbers
         },
         ProofSearch::NotFoundInBounds(count) => without_proof(11, count),
         ProofSearch::NotFound(count) => without_proof(12, count),
-        ProofSearch::SetSizeRefused => refusal(1),
-        ProofSearch::LimitRefused => refusal(2),
-        ProofSearch::ProbabilityRefused => refusal(3),
-        ProofSearch::Malformed => refusal(4),
-        ProofSearch::TooLarge => refusal(5),
-        ProofSearch::WorkspaceShort => refusal(6),
-        ProofSearch::NotEnoughElements => refusal(10),
+        ProofSearch::SetSizeRefused => without_proof(1, 0),
+        ProofSearch::LimitRefused => without_proof(2, 0),
+        ProofSearch::ProbabilityRefused => without_proof(3, 0),
+        ProofSearch::Malformed => without_proof(4, 0),
+        ProofSearch::TooLarge => without_proof(5, 0),
+        ProofSearch::WorkspaceShort => without_proof(6, 0),
+        ProofSearch::NotEnoughElements => without_proof(10, 0),
     }
 }
 
@@ -158,7 +148,7 @@ pub extern "C" fn alba_prove(
     bins: &mut [u32],
     out: &mut [u64],
 ) -> u32
-    ensures { λ r. ⌜ (r, now (places .exit), now (bins .exit), now (out .exit)) ≡ exportedProve (settings «set_size» «proof_size» «max_retries» «search_width» «dfs_bound» q) (now («data» .entry)) (now (ends .entry)) (now (marks .entry)) (now (indexes .entry)) (now (places .entry)) (now (bins .entry)) (now (out .entry)) ⌝ }
+    ensures { λ r. ⌜ (r, now (places .exit), now (bins .exit), now (out .exit)) ≡ exportedProve (settingsOf «set_size» «proof_size» «max_retries» «search_width» «dfs_bound» q) (now («data» .entry)) (now (ends .entry)) (now (marks .entry)) (now (indexes .entry)) (now (places .entry)) (now (bins .entry)) (now (out .entry)) ⌝ }
 {
     let p = Params {
         set_size,

@@ -8,6 +8,7 @@ use native.Mathlib.Nat.{add-zero}
 use native.Mathlib.Omega.{arith}
 use lib.ListN.{length, take, drop, length-append, length-drop, take-append-drop, drop-of-length-le}
 use lib.Seq.{take-all, drop-append-le, length-take-le}
+use Rattle.sampling.specs.CommonLaws.{all-behind}
 use Rattle.sampling.specs.Fips180.{block, compressed, hashValue}
 use Rattle.sampling.specs.Hasher.{Holds, Takes, Absorbed}
 use Rattle.sampling.specs.declared.sha256.State.{State}
@@ -87,11 +88,8 @@ module _ (m s : List ℕ) (z : length m % 64 ≡ 0) where
 pub two : (h h₁ h₂ : Hasher) (s : List ℕ) (n : ℕ) → n ≤ length s → Takes h (take n s) h₁ → Takes h₁ (take (length s - n) (drop n s)) h₂ → Takes h s h₂
 two h h₁ h₂ s n le p q = record {
   count = omega (arith, p .count, q .count, length-take-le n s le, length-take-le (length s - n) (drop n s) (omega (arith, length-drop n s)));
-  holds = λ m i. rw (append-assoc, rest, take-append-drop) at (q .holds (m ++ take n s) (p .holds m i));
+  holds = λ m i. rw (append-assoc, all-behind s n, take-append-drop) at (q .holds (m ++ take n s) (p .holds m i));
 }
-  where
-    rest : take (length s - n) (drop n s) ≡ drop n s
-    rest = take-all (length s - n) (drop n s) (omega (arith, length-drop n s))
 
 -- ---- the limit of 2^29 bytes
 

@@ -1,18 +1,19 @@
 -- Blocks of a message: what is read of joined strings, and the hash value after one block more.
-use mathlib.Core.Path.{_≡_, refl}
+use mathlib.Core.Path.{_≡_, refl, _∙_}
 use mathlib.Core.List.{List, _++_}
 use Prim.Native.Nat.{ℕ, zero, suc, _+_, _*_, _<_, _≤_}
 use native.Mathlib.Numerals.{add-one}
 use native.Mathlib.Omega.{arith}
 use lib.ListN.{length, getD, take, set, List·getD-append}
-use lib.Seq.{take-suc-set, getD-append-add}
+use lib.Seq.{getD-append-add}
+use Rattle.sampling.specs.CommonLaws.{filled-more}
 use Rattle.sampling.specs.Fips180.{word, words, block, compressed, hashValue}
 use Rattle.sampling.specs.declared.sha256.State.{State}
 
 -- one word more of a block that is being read
 pub one-word : (m w : List ℕ) (o n : ℕ) {x : ℕ} → n < length w → take n w ≡ words m o n → x ≡ word m (o + 4 * n) → take (n + 1) (set w n x) ≡ words m o (n + 1)
 unfolding words
-one-word m w o n {x} h e p = rw (add-one, take-suc-set w n x h, e, p)
+one-word m w o n {x} h e p = filled-more w (words m o n) n x h e ∙ rw (add-one n, p)
 
 -- ---- joined strings
 

@@ -1,32 +1,19 @@
 -- The threshold from the bits of a double. A double whose exponent's field is x, from 1 to 2046, is q * 2 ^ (x - 1075), with q its digits
 -- under a leading one: so X is the smaller of q * 2 ^ (x + 127) / 2 ^ 1074 and 2 ^ 128 - 1, and shifts of q make its two words.
 use mathlib.Core.Path.{_≡_, refl, sym, ap, _∙_, subst}
-use mathlib.Core.Bool.{Bool, true, false, not, cond, _||_}
+use mathlib.Core.Bool.{Bool, true, false, not, cond}
 use mathlib.Core.Logic.{inl, inr}
 use Prim.Native.Nat.{ℕ, zero, suc, _+_, _-_, _*_, _/_, _%_, _^_, _≤_, _<_, min}
 use native.Mathlib.Nat.{le-trans, le-of-eq, lt-of-lt-of-le, lt-of-le-of-lt, mul-assoc, mul-right-comm, mul-le-mul-right, le-add-right, mod-lt, div-eq-of-lt, zero-add, add-zero, lt-irrefl, eq-or-lt-of-le}
 use native.Mathlib.Omega.{arith}
 use lib.Dec.{T, leb, eqb, lit≤, not-T, eqb→eq}
 use lib.Pow.{pow-add, pow-pos, pow-mono, shl-lt, shl-shr, shr-shr, shl-exact, shr-le, split, field}
-use lib.Ieee.{Float, nan, inf, fin, binary64, up, down, odd, fits, isNan, lt, ne, ofFields, ofBits, toBits}
+use lib.Ieee.{Float, nan, inf, fin, binary64, up, down, odd, fits, isNan, ofFields, ofBits, toBits}
 use lib.Ieee.Fits.{down-pos}
 use lib.Ieee.Bits.{ofBits-toBits}
-use lib.Ieee.Compare.{differs-from-itself, nan-differs}
 use lib.Ieee.Exact.{HasValue, odd-sign}
 use lib.Ieee.Nearest.{div-same}
-use Rattle.sampling.specs.Sample.{outsideUnit, threshold}
-
--- ---- the test on q
-
-pub a-nan : (q : Float) → ne q q ≡ true → true ≡ outsideUnit q
-unfolding outsideUnit isNan
-a-nan q d = rw (differs-from-itself q (subst T (sym d) tt))
-
-pub by-bounds : (q : Float) (t : Bool) → ne q q ≡ false → lt q (ofBits binary64 0) ≡ t → t || lt (ofBits binary64 0x3ff0_0000_0000_0000) q ≡ outsideUnit q
-unfolding outsideUnit isNan ofBits
-by-bounds nan t d e = absurd (subst T (sym nan-differs ∙ d) tt)
-by-bounds (inf s) t d e = rw e
-by-bounds (fin s m n) t d e = rw e
+use Rattle.sampling.specs.Sample.{threshold}
 
 -- ---- shifts
 

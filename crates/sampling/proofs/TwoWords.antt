@@ -1,12 +1,11 @@
 -- Numbers of two words: the 16 bytes that they stand for, and their order.
-use mathlib.Core.Path.{_≡_, refl, sym, ap, _∙_}
+use mathlib.Core.Path.{_≡_, ap, _∙_}
 use mathlib.Core.List.{List}
-use mathlib.Core.Bool.{Bool, true, false}
-use Prim.Native.Nat.{ℕ, _+_, _*_, _^_, _≤_, _<_}
+use Prim.Native.Nat.{ℕ, _+_, _*_, _^_, _<_}
 use native.Mathlib.Omega.{arith}
-use borrow.Author.Tests.{ltb-true, ltb-false, lt-ltb, le-ltb}
 use lib.ListN.{getD}
 use lib.Dec.{ltb}
+use Rattle.sampling.specs.CommonLaws.{same-test}
 use Rattle.sampling.specs.BigEndian.{bigEndian}
 
 -- ---- 16 bytes: 8 more bytes after those of the high word make the low one
@@ -27,14 +26,6 @@ sixteen-bytes l hi lo p q =
     ∙ ap (λ (k : ℕ). then-bytes k (getD l 8 0) (getD l 9 0) (getD l 10 0) (getD l 11 0) (getD l 12 0) (getD l 13 0) (getD l 14 0) (getD l 15 0)) p
 
 -- ---- the order: by the low words where the high ones are equal, and otherwise by the high ones
-
--- two tests have one outcome where each outcome of the first gives the second's
-same-test : (a b c d : ℕ) → (a < b → c < d) → (b ≤ a → d ≤ c) → ltb a b ≡ ltb c d
-same-test a b c d under over = go (ltb a b) refl
-  where
-    go : (t : Bool) → ltb a b ≡ t → t ≡ ltb c d
-    go true h = sym (lt-ltb c d (under (ltb-true a b h)))
-    go false h = sym (le-ltb c d (over (ltb-false a b h)))
 
 module _ (a b c d : ℕ) where
   pub by-low-words : a ≡ b → ltb c d ≡ ltb (a * 2 ^ 64 + c) (b * 2 ^ 64 + d)

@@ -5,7 +5,7 @@ use Prim.Native.Nat.{ℕ, zero, suc, _+_, _-_, _*_, _/_, _%_, _≤_, _<_}
 use native.Mathlib.Nat.{le-of-suc-le-suc, not-suc-le-zero}
 use native.Mathlib.Numerals.{add-one}
 use native.Mathlib.Omega.{arith}
-use lib.ListN.{length, take, drop, getD, set, length-take, length-drop, length-append, drop-of-length-le}
+use lib.ListN.{length, take, drop, getD, set, length-take, length-drop, length-append}
 use lib.Seq.{take-all, drop-length, set-split, drop-at, take-at, length-take-le}
 use Rattle.sampling.specs.BigEndian.{bytesOf}
 use Rattle.sampling.specs.BigEndianLaws.{length-bytesOf}
@@ -37,10 +37,6 @@ unfolding bytesOf
 all-written r out w e = e
 
 -- ---- a string
-
--- a copy over all of the bytes that were there
-pub copied : (s d : List ℕ) → length s ≡ length d → take (length s) s ++ drop (length s) d ≡ s
-copied s d e = rw (take-all (length s) s (omega arith), drop-of-length-le d {i = length s} (omega arith), append-nil s)
 
 -- a copy into a part: p is what the part, X before, holds then; what follows the copy isn't looked at
 pub copied-in : (b s p X rest : List ℕ) (a : ℕ) → a ≤ length b → p ≡ take (length s) s ++ drop (length s) X

@@ -7,7 +7,7 @@ use lib.Dec.{T, eqb}
 use lib.ListN.{replicate}
 use lib.Ieee.{Float, fin, isNan, lt}
 use Rattle.sampling.specs.BigEndian.{bigEndian}
-use Rattle.sampling.specs.Sample.{isPower, modNotPower, uniform, outsideUnit, threshold, bernoulli}
+use Rattle.sampling.specs.Sample.{isPower, modNotPower, uniform, outside, threshold, bernoulli}
 
 -- 15 bytes b, then the byte l
 pub ends : ℕ → ℕ → List ℕ
@@ -52,5 +52,5 @@ cases =
     ∷ []
 
 pub cases-hold : T (all-hold cases)
-unfolding isNan lt bigEndian isPower modNotPower uniform outsideUnit threshold bernoulli ends starts two-to holds all-hold cases
+unfolding isNan lt bigEndian isPower modNotPower uniform outside threshold bernoulli ends starts two-to holds all-hold cases
 cases-hold = tt

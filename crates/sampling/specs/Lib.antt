@@ -1,4 +1,5 @@
 -- The definitions that the contracts of `sampling` cite, and laws about them.
+pub mod CommonLaws
 pub mod BigEndian
 pub mod BigEndianLaws
 pub mod Fips180

@@ -37,9 +37,13 @@ drawNumber (draw.Value v) = (0, v)
 drawNumber draw.NoDraw = (1, 0)
 drawNumber draw.Refused = (7, 0)
 
--- 01, Lent and given back, refusal 3: "q below 0, above 1 or NaN". Negative zero is not below 0
-unfoldable pub outsideUnit : Float → Bool
-outsideUnit q = isNan q || (lt q (fin false 0 (pos 0)) || lt (fin false 1 (pos 0)) q)
+-- x is a NaN, below 0 or above the whole number hi. Negative zero is not below 0
+unfoldable pub outside : ℕ → Float → Bool
+outside hi x = isNan x || (lt x (fin false 0 (pos 0)) || lt (fin false hi (pos 0)) x)
+
+-- 01, Lent and given back, refusal 3: "q below 0, above 1 or NaN"
+abbrev pub outsideUnit : Float → Bool
+outsideUnit q = outside 1 q
 
 -- 01, Sampler, "floor(q × 2^128) .., q being the double's exact amount": m * 2 ^ e, with 2 ^ e as up e / down e
 abbrev pub floorOf : ℕ → ℤ → ℕ

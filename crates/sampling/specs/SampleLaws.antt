@@ -8,9 +8,11 @@ use native.Mathlib.Nat.{eq-or-lt-of-le, eq-zero-or-pos, mod-lt, mod-one, min-le-
 use native.Mathlib.Omega.{arith}
 use borrow.Author.Tests.{eq-eqb, ne-eqb, eqb-true, lt-ltb, le-ltb, ltb-true}
 use lib.Dec.{T, leb, ltb, eqb, lit<}
-use lib.Ieee.{Float, nan, inf, fin, binary64, ofBits, isNan, lt}
+use lib.IntN.{pos}
+use lib.Ieee.{Float, nan, inf, fin, binary64, ofBits, isNan, lt, ne}
+use lib.Ieee.Compare.{differs-from-itself, nan-differs}
 use Rattle.sampling.specs.BigEndian.{bigEndian}
-use Rattle.sampling.specs.Sample.{isPower, D, modNotPower, uniform, outsideUnit, floorOf, threshold, thresholdOrRefusal, bernoulli}
+use Rattle.sampling.specs.Sample.{isPower, D, modNotPower, uniform, outside, outsideUnit, floorOf, threshold, thresholdOrRefusal, bernoulli}
 
 -- ---- powers of two: the test says yes exactly at 2 ^ 0, .. 2 ^ (k - 1)
 
@@ -102,6 +104,19 @@ module _ (h : List ℕ) (n : ℕ) where
 pub drawn-of-one : (h : List ℕ) → uniform h 1 ≡ (0, 0)
 drawn-of-one h = at-a-power h 1 (omega arith) (power-is 64 0 1 (omega arith) refl) ∙ ap (λ (v : ℕ). (0, v)) (mod-one (bigEndian 8 h))
 
+-- ---- the test of a double's range, as code makes it: a NaN differs from itself, and any other double is judged by the two bounds
+
+pub nan-outside : (hi : ℕ) (x : Float) → ne x x ≡ true → true ≡ outside hi x
+unfolding outside isNan
+nan-outside hi x d = rw (differs-from-itself x (subst T (sym d) tt))
+
+pub by-bounds : (hi : ℕ) (x top : Float) (t : Bool) → top ≡ fin false hi (pos 0) → ne x x ≡ false → lt x (ofBits binary64 0) ≡ t
+    → t || lt top x ≡ outside hi x
+unfolding outside isNan ofBits
+by-bounds hi nan top t u d e = absurd (subst T (sym nan-differs ∙ d) tt)
+by-bounds hi (inf s) top t u d e = rw (e, u)
+by-bounds hi (fin s m n) top t u d e = rw (e, u)
+
 -- ---- the draw with a probability
 
 pub threshold-below : (q : Float) → threshold q < 2 ^ 128
@@ -112,12 +127,12 @@ threshold-below (fin s m e) = lt-of-le-of-lt (min-le-right (floorOf m e) (2 ^ 12
 
 -- "Negative zero is zero"
 pub negative-zero : thresholdOrRefusal (ofBits binary64 (2 ^ 63)) ≡ (0, 0)
-unfolding ofBits isNan lt outsideUnit threshold thresholdOrRefusal
+unfolding ofBits isNan lt outside threshold thresholdOrRefusal
 negative-zero = refl
 
 -- a q that is not refused is a number
 pub inside-no-nan : (q : Float) → outsideUnit q ≡ false → T (not (isNan q))
-unfolding outsideUnit isNan
+unfolding outside isNan
 inside-no-nan nan o = absurd (subst T o tt)
 inside-no-nan (inf s) o = tt
 inside-no-nan (fin s m e) o = tt

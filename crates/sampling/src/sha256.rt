@@ -3,7 +3,7 @@ ghost use mathlib.Core.Path.{_≡_};
 ghost use mathlib.Core.List.{List, [], _++_};
 ghost use Prim.Native.Nat.{ℕ, _+_, _*_, _%_, _^_, _<_, _≤_};
 ghost use lib.ListN.{length, getD, take};
-ghost use Rattle.sampling.specs.Fips180.{_⊞_, Ch, Maj, Σ₀, Σ₁, σ₀, σ₁, K, H₀, W, round, rounds, plus, compressed, word, block, zeros, digestOf};
+ghost use Rattle.sampling.specs.Fips180.{_⊞_, Ch, Maj, Σ₀, Σ₁, σ₀, σ₁, W, round, rounds, plus, compressed, word, block, zeros, digestOf};
 ghost use Rattle.sampling.specs.Hash.{hashed, hashedNumber};
 ghost use Rattle.sampling.specs.Hasher.{Window, wordAfter, roundsOver, Takes, Absorbed};
 use crate::big_endian;

@@ -1,42 +1,38 @@
-// Reading a list.
+// The stored lists as files.
 ghost use mathlib.Core.Path.{_≡_};
 ghost use lib.ListN.{length};
-ghost use Rattle.io.specs.Counts.{Counts};
-use libc::STDOUT_FILENO;
+use crate::say::say_line;
+use text::lines::Came;
+use text::say::say;
 
-// Room for a list.
-pub fn room() -> [u8; 131072]
-    ensures { λ r. ⌜ 131072 ≡ length r ⌝ }
-{
-    [0; 131072]
-}
-
-// What is left of an open file, at the start of `text`: how many bytes. 0 and a message where it can't be read to its end.
-fn read_open(name: &[u8], fd: i32, text: &mut [u8]) -> usize
-    ensures { λ r. ⌜ Counts r (now (text .exit)) ⌝ }
-{
-    let n = io::read_full(fd, text);
-    // A read that fails and one at the end both stop `read_full`. Only at the end does one more answer 0.
-    let mut more = [0u8; 1];
-    if libc::read(fd, &mut more) == 0 {
-        return n;
-    }
-    io::write_all(STDOUT_FILENO, name);
-    io::write_all(STDOUT_FILENO, b": too long, or can't be read to its end\n");
-    0
-}
-
-// The file's bytes, at the start of `text`: how many. 0 and a message where it can't be read.
-pub fn read(name: &[u8], text: &mut [u8]) -> usize
-    ensures { λ r. ⌜ Counts r (now (text .exit)) ⌝ }
-{
+// Opens a list: its descriptor, or below 0 and a message.
+pub fn open(name: &[u8]) -> i32 {
     let fd = os::open_read(name);
     if fd < 0 {
-        io::write_all(STDOUT_FILENO, name);
-        io::write_all(STDOUT_FILENO, b": can't be opened\n");
-        return 0;
+        say(name);
+        say(b": can't be opened\n");
     }
-    let n = read_open(name, fd, text);
-    libc::close(fd);
-    n
+    fd
+}
+
+// Says what ended the reading of a list, where it was not the list's end.
+pub fn say_end(name: &[u8], came: Came, number: u64) {
+    match came {
+        Came::TooLong => {
+            say_line(name, number);
+            say(b"too long\n");
+        }
+        Came::Unreadable => {
+            say_line(name, number);
+            say(b"can't be read\n");
+        }
+        _ => {}
+    }
+}
+
+// Room for a line, and for as much text or data as one has.
+pub fn room() -> [u8; 16384]
+    ensures { λ r. ⌜ 16384 ≡ length r ⌝ }
+{
+    [0; 16384]
 }

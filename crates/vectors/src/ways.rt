@@ -4,18 +4,13 @@ ghost use lib.ListN.{length};
 use sampling::sha256::Hashed;
 use sampling::sha256::Hasher;
 use sampling::sha256::sha256;
+use text::least;
 
 // Where a message is cut into four strings.
 struct Cuts {
     a: usize,
     b: usize,
     c: usize,
-}
-
-fn least(a: usize, b: usize) -> usize
-    ensures { λ r. ⌜ (r ≤ a) × (r ≤ b) ⌝ }
-{
-    if a < b { a } else { b }
 }
 
 // A number up to `most` that goes with x.

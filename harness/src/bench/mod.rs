@@ -7,7 +7,7 @@ mod measure;
 mod openssl;
 mod searches;
 
-use crate::{args::AGAIN, ffi, rng::Rng};
+use crate::{args::AGAIN, ffi, list::List, rng::Rng};
 use measure::{in_turns, Measured, Work, ROUNDS};
 use oracle::utils::types::Element;
 use sha2::{Digest, Sha256};
@@ -144,11 +144,10 @@ fn distinctness() {
             Element::new(data, Some(index))
         })
         .collect();
-    let data: Vec<u8> = elements.iter().flat_map(|element| element.data).collect();
-    let ends: Vec<u32> = (1..=65_536).map(|i| 32 * i).collect();
-    let (marks, indexes) = (vec![1; 65_536], Vec::from_iter(0..65_536));
+    let mut list = List::default();
+    elements.iter().for_each(|element| list.push(&element.data, element.index, 0));
     let [ours, theirs] = in_turns([
-        Box::new(|calls| (0..calls).for_each(|_| assert_eq!(ffi::check_distinct(black_box(&data), &ends, &marks, &indexes), 0))),
+        Box::new(|calls| (0..calls).for_each(|_| assert_eq!(ffi::check_distinct(black_box(&list).lent()), 0))),
         Box::new(|calls| (0..calls).for_each(|_| assert!(oracle::check_distinct(black_box(&elements))))),
     ]);
     row("distinctness of 65,536 elements of 32 bytes", "the Rust", ours, theirs, None);

@@ -5,6 +5,7 @@
 use super::measure::{in_turns, median, timed, Measured, Work};
 use super::{row, SHA2};
 use crate::{
+    compare::searches::list_of_48,
     ffi,
     ffi::Settings,
     list::{List, Written},
@@ -92,13 +93,9 @@ fn search<E: AsRef<[u8]> + Clone>(settings: &Settings, seed: u64, element: fn(&[
 
 /// set_size elements of 48 random bytes, with their place as index.
 fn any_elements<E: AsRef<[u8]> + Clone>(rng: &mut Rng, element: fn(&[u8; 48]) -> E) -> (List, Vec<Element<E>>) {
-    let (mut list, mut elements) = (List::default(), Vec::new());
-    for place in 0..SET_SIZE {
-        let mut data = [0; 48];
-        rng.fill(&mut data);
-        list.push(&data, Some(place), 0);
-        elements.push(Element::new(element(&data), Some(place)));
-    }
+    let list = list_of_48(rng, SET_SIZE);
+    let data = |place: u64| list.data_of(place as usize).try_into().expect("48 bytes");
+    let elements = (0..SET_SIZE).map(|place| Element::new(element(data(place)), Some(place))).collect();
     (list, elements)
 }
 

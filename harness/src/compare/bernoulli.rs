@@ -1,6 +1,6 @@
 //! `alba_sample_bernoulli` against the Rust's `sample_bernoulli`.
 
-use super::{hex, Checked, Run, Shifted};
+use super::{hex, Answered, Checked, Run, Shifted};
 use crate::{ffi, rng::Rng};
 
 pub fn run(run: &mut Run, cases: u64) -> Checked {
@@ -12,11 +12,7 @@ pub fn run(run: &mut Run, cases: u64) -> Checked {
     }
     for _ in 0..cases {
         let q = any_q(&mut run.rng);
-        let near = around(&mut run.rng, q);
-        let i = match run.rng.below(2) {
-            0 => run.rng.wide(),
-            _ => near[run.rng.below(near.len() as u64) as usize],
-        };
+        let i = any_hash(&mut run.rng, q);
         check(&mut run.rng, i, q)?;
         run.count();
     }
@@ -24,13 +20,13 @@ pub fn run(run: &mut Run, cases: u64) -> Checked {
 }
 
 /// One case with a lawful q; `i` is the hash as a big-endian number.
-pub fn check(rng: &mut Rng, i: u128, q: f64) -> Checked {
+pub fn check(rng: &mut Rng, i: u128, q: f64) -> Answered {
     let bytes = i.to_be_bytes();
     let h = Shifted::new(rng, &bytes);
     let ours = ffi::sample_bernoulli(Some(h.bytes()), q);
     let theirs = oracle::sample_bernoulli(&bytes, q);
     if ours == u32::from(theirs) && h.bytes() == bytes {
-        return Ok(());
+        return Ok(ours);
     }
     Err(format!(
         "  h = {}\n  q = {q:e}, bits 0x{:016x}\n  ours: {ours}\n  the Rust: {theirs}\n  h after: {}",
@@ -51,16 +47,25 @@ pub fn edges() -> Vec<f64> {
 }
 
 /// 2^−k, for k from 0 to 1074, by its bits: the exponent's where the double is normal, a single digit's where it isn't.
-fn power_of_half(k: u64) -> f64 {
+pub fn power_of_half(k: u64) -> f64 {
     f64::from_bits(if k <= 1022 { (1023 - k) << 52 } else { 1 << (1074 - k) })
 }
 
 /// Hashes at and around the threshold of q (which is used for this choice only), at both ends, and on each side.
-fn around(rng: &mut Rng, q: f64) -> [u128; 9] {
+pub fn around(rng: &mut Rng, q: f64) -> [u128; 9] {
     let x = (q * 2f64.powi(128)) as u128;
     let below = rng.wide() % x.max(1);
     let above = x.saturating_add(rng.wide() % (u128::MAX - x).max(1));
     [0, 1, x.saturating_sub(1), x, x.saturating_add(1), u128::MAX - 1, u128::MAX, below, above]
+}
+
+/// Anywhere, or near a place where the answer may turn.
+pub fn any_hash(rng: &mut Rng, q: f64) -> u128 {
+    let near = around(rng, q);
+    match rng.below(2) {
+        0 => rng.wide(),
+        _ => near[rng.below(near.len() as u64) as usize],
+    }
 }
 
 pub fn any_q(rng: &mut Rng) -> f64 {

@@ -2,10 +2,10 @@
 
 use super::{Checked, Run};
 use crate::rng::Rng;
-use std::collections::BTreeMap;
+use std::collections::{BTreeMap, BTreeSet};
 use std::fmt::Write;
 use std::sync::{Mutex, PoisonError};
-use std::thread;
+use std::thread::{self, Scope};
 
 /// Room for the deepest search, whatever the compiler makes of it.
 const STACK: usize = 64 << 20;
@@ -19,7 +19,7 @@ impl Tally {
         *self.0.entry((question, answer)).or_default() += 1;
     }
 
-    fn add(&mut self, other: &Tally) {
+    pub fn add(&mut self, other: &Tally) {
         for (key, times) in &other.0 {
             *self.0.entry(*key).or_default() += times;
         }
@@ -29,13 +29,27 @@ impl Tally {
         self.0.values().sum()
     }
 
+    /// How often a question was asked.
+    pub fn asked(&self, question: &str) -> u64 {
+        self.0.iter().filter(|(key, _)| key.0 == question).map(|(_, times)| times).sum()
+    }
+
+    pub fn times(&self, question: &'static str, answer: u32) -> u64 {
+        self.0.get(&(question, answer)).copied().unwrap_or(0)
+    }
+
+    /// The answers that there were, to whatever question.
+    pub fn answers(&self) -> BTreeSet<u32> {
+        self.0.keys().map(|key| key.1).collect()
+    }
+
     /// How many answers there were to each question, in parentheses; nothing where nothing was asked.
     pub fn totals(&self) -> String {
         let mut questions: BTreeMap<&str, u64> = BTreeMap::new();
         for ((question, _), times) in &self.0 {
             *questions.entry(question).or_default() += times;
         }
-        let questions: Vec<String> = questions.iter().map(|(question, times)| format!("{question}s {times}")).collect();
+        let questions: Vec<String> = questions.iter().map(|(question, times)| format!("{question} {times}")).collect();
         match questions.is_empty() {
             true => String::new(),
             false => format!(" ({})", questions.join(", ")),
@@ -79,12 +93,15 @@ pub fn run(run: &mut Run, blocks: u64, work: impl Fn(u64, &mut Block) -> Checked
             give_back(&shared, number, &block.tally, done);
         }
     };
-    thread::scope(|scope| {
-        for _ in 0..thread::available_parallelism().map_or(1, |n| n.get()) {
-            thread::Builder::new().stack_size(STACK).spawn_scoped(scope, worker).expect("a thread");
-        }
-    });
+    thread::scope(|scope| start(scope, thread::available_parallelism().map_or(1, |n| n.get()), &worker));
     shared.into_inner().unwrap_or_else(PoisonError::into_inner).failed
+}
+
+/// Starts so many threads that have room for the deepest search.
+pub fn start<'scope>(scope: &'scope Scope<'scope, '_>, threads: usize, worker: &'scope (impl Fn() + Sync)) {
+    for _ in 0..threads {
+        thread::Builder::new().stack_size(STACK).spawn_scoped(scope, worker).expect("a thread");
+    }
 }
 
 fn take(shared: &Mutex<Shared>, blocks: u64) -> Option<u64> {

@@ -1,11 +1,8 @@
 //! Faults put into settings and lists that had none.
 
 use super::refusals;
+use super::rules::{BYTES, ELEMENTS, MOST};
 use crate::{ffi::Settings, list::List, rng::Rng};
-
-/// The most elements of a list, and the most data bytes of one.
-pub const ELEMENTS: usize = 65_536;
-pub const BYTES: usize = 4096;
 
 /// A number over the limit: the next one, one of the highest, or any.
 fn over(rng: &mut Rng, limit: u64) -> u64 {
@@ -20,11 +17,11 @@ fn over(rng: &mut Rng, limit: u64) -> u64 {
 
 pub fn in_settings(rng: &mut Rng, s: &mut Settings) {
     match rng.below(6) {
-        0 => s.set_size = if rng.below(3) == 0 { 0 } else { over(rng, 32_768) },
-        1 => s.proof_size = over(rng, 1024),
-        2 => s.max_retries = over(rng, 65_535),
-        3 => s.search_width = over(rng, (1 << 32) - 1),
-        4 => s.dfs_bound = over(rng, 1 << 48),
+        0 => s.set_size = if rng.below(3) == 0 { 0 } else { over(rng, MOST.set_size) },
+        1 => s.proof_size = over(rng, MOST.proof_size),
+        2 => s.max_retries = over(rng, MOST.max_retries),
+        3 => s.search_width = over(rng, MOST.search_width),
+        4 => s.dfs_bound = over(rng, MOST.dfs_bound),
         _ => {
             let listed = refusals::unlawful();
             s.q = listed[rng.below(listed.len() as u64) as usize];
@@ -32,9 +29,18 @@ pub fn in_settings(rng: &mut Rng, s: &mut Settings) {
     }
 }
 
+/// A fault of any kind at any place.
 pub fn in_list(rng: &mut Rng, list: &mut List) {
-    let place = rng.below(list.len().max(1) as u64) as usize;
-    match rng.below(8) {
+    let (fault, place) = (rng.below(IN_LISTS), rng.below(list.len().max(1) as u64) as usize);
+    at_place(rng, list, fault, place);
+}
+
+/// How many kinds of faults a list can have here.
+pub const IN_LISTS: u64 = 9;
+
+/// A fault of this kind, where it has a place at this one.
+pub fn at_place(rng: &mut Rng, list: &mut List, fault: u64, place: usize) {
+    match fault {
         0 => one_off(rng, &mut list.ends, 0),
         1 => one_off(rng, &mut list.marks, 0),
         2 => one_off(rng, &mut list.indexes, 0),
@@ -48,8 +54,10 @@ pub fn in_list(rng: &mut Rng, list: &mut List) {
             let end = past + if rng.below(2) == 0 { 0 } else { rng.below((1 << 32) - past) };
             set(&mut list.ends, place, end as u32);
         }
-        6 => {
-            list.push(&vec![0x11; BYTES + 1], None, 0);
+        6 => list.push(&[0x11; BYTES + 1], None, 0),
+        7 => {
+            let over = ELEMENTS + 1 + rng.below(9) as usize;
+            (list.len()..over).for_each(|_| list.push(&[], None, 0));
         }
         // The data's own end comes too early.
         _ => {

@@ -1,9 +1,9 @@
-//! Numbers lent to be written: inside a larger buffer of random numbers, so that every number written is seen, also outside the place.
+//! A place lent to be written: inside a larger buffer of random bytes or numbers, so that everything written is seen, also outside the place.
 
 use crate::{ffi::Place, rng::Rng};
 use std::fmt::Debug;
 
-/// Numbers before and after the place, at least.
+/// Numbers before and after the place, at least. The starts differ by up to 7, so that bytes meet every alignment.
 const BESIDE: usize = 16;
 
 pub struct Fenced<T> {

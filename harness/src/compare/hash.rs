@@ -1,6 +1,6 @@
 //! `alba_sha256` against the crate `sha2`, which the Rust hashes with.
 
-use super::{guard::Guarded, hex, Checked, Run};
+use super::{fence::Fenced, hex, Answered, Checked, Run};
 use crate::{ffi, ffi::Lent, rng::Rng};
 use sha2::{Digest, Sha256};
 
@@ -26,18 +26,23 @@ pub fn run(run: &mut Run, cases: u64) -> Checked {
         }
     }
     for _ in 0..cases {
-        let most = match run.rng.below(4096) {
-            0 => 1 << 20,
-            1..=63 => 1 << 16,
-            _ => 2000,
-        };
-        let len = run.rng.below(most + 1) as usize;
-        let room = message(&mut run.rng, len);
-        let strings = cut(&mut run.rng, &room[room.len() - len..]);
-        check(&mut run.rng, strings)?;
+        check_any(&mut run.rng)?;
         run.count();
     }
     Ok(())
+}
+
+/// A message of any length, most of them short, cut anywhere.
+pub fn check_any(rng: &mut Rng) -> Answered {
+    let most = match rng.below(4096) {
+        0 => 1 << 20,
+        1..=63 => 1 << 16,
+        _ => 2000,
+    };
+    let len = rng.below(most + 1) as usize;
+    let room = message(rng, len);
+    let strings = cut(rng, &room[room.len() - len..]);
+    check(rng, strings)
 }
 
 /// The most bytes that are admitted, and one more.
@@ -48,7 +53,7 @@ pub fn at_limit(run: &mut Run, _: u64) -> Checked {
     let theirs: [u8; 32] = Sha256::digest(longest).into();
     let several = cut(&mut run.rng, longest);
     for strings in [[Some(longest), None, None, None], several] {
-        expect(&mut run.rng, strings, 32, 0, Some(&theirs))?;
+        expect(&mut run.rng, strings, 32, 0, &theirs)?;
         run.count();
     }
 
@@ -62,42 +67,41 @@ pub fn at_limit(run: &mut Run, _: u64) -> Checked {
     ];
     over.extend((0..3).map(|_| cut(&mut run.rng, &message)));
     for strings in over {
-        expect(&mut run.rng, strings, 32, ffi::TOO_LONG, Some(&[0; 32]))?;
+        expect(&mut run.rng, strings, 32, ffi::TOO_LONG, &[0; 32])?;
         run.count();
         // A wrong length of out is refused first.
-        expect(&mut run.rng, strings, 31, ffi::BAD_LENGTH, None)?;
+        expect(&mut run.rng, strings, 31, ffi::BAD_LENGTH, &[])?;
         run.count();
     }
     Ok(())
 }
 
 /// One case of lawful length. `sha2` runs second, so that a message altered by the library shows as well.
-pub fn check(rng: &mut Rng, strings: [Lent; 4]) -> Checked {
-    let mut out = Guarded::new(rng, 32);
+pub fn check(rng: &mut Rng, strings: [Lent; 4]) -> Answered {
+    let mut out = Fenced::new(rng, 32, |word| word as u8);
     let ours = ffi::sha256(strings, &mut out);
     let joined = strings.iter().flatten().fold(Sha256::new(), |hasher, string| hasher.chain_update(string));
     let theirs: [u8; 32] = joined.finalize().into();
-    verdict(strings, &out, ours, 0, Some(&theirs))
+    verdict(strings, &out, ours, 0, &theirs)
 }
 
 /// One case whose answer is known before.
-pub fn expect(rng: &mut Rng, strings: [Lent; 4], out_len: usize, number: u32, written: Option<&[u8]>) -> Checked {
-    let mut out = Guarded::new(rng, out_len);
+pub fn expect(rng: &mut Rng, strings: [Lent; 4], out_len: usize, number: u32, written: &[u8]) -> Answered {
+    let mut out = Fenced::new(rng, out_len, |word| word as u8);
     let ours = ffi::sha256(strings, &mut out);
     verdict(strings, &out, ours, number, written)
 }
 
-pub fn verdict(strings: [Lent; 4], out: &Guarded, ours: u32, number: u32, written: Option<&[u8]>) -> Checked {
+pub fn verdict(strings: [Lent; 4], out: &Fenced<u8>, ours: u32, number: u32, written: &[u8]) -> Answered {
     if ours == number && out.holds(written) {
-        return Ok(());
+        return Ok(ours);
     }
-    let due = written.map_or("untouched".to_string(), hex);
     let strings = strings.map(|string| match string {
         None => "  string: a null pointer, 0 bytes\n".to_string(),
         Some(bytes) if bytes.len() > 1 << 20 => format!("  string: {} bytes, which the seed gives\n", bytes.len()),
         Some(bytes) => format!("  string: {} bytes: {}\n", bytes.len(), hex(bytes)),
     });
-    Err(format!("{}  ours: {ours}\n  due: {number} and out {due}\n{}", strings.concat(), out.story()))
+    Err(format!("{}  ours: {ours}\n  due: {number}\n{}", strings.concat(), out.story("out", written)))
 }
 
 /// A message of random bytes at the end of what is returned, which starts up to 7 bytes earlier: every alignment is met.

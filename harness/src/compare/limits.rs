@@ -1,17 +1,13 @@
 //! Searches with each setting and each list at its limit, and the specification's cases i to l, against the Rust.
 
-use super::{blocks, faults, searches, verdicts, Checked, Run};
+use super::{blocks, faults, rules, searches, Checked, Run};
 use crate::{ffi::Settings, list::List};
 
 pub fn run(run: &mut Run, _: u64) -> Checked {
     let cases = cases();
     blocks::run(run, cases.len() as u64, |number, block| {
         let (settings, list) = &cases[number as usize];
-        let outcome = searches::check(block, settings, list)?;
-        if outcome.number == 0 {
-            verdicts::of_proof(block, settings, list, &outcome)?;
-        }
-        Ok(())
+        searches::check_and_verify(block, settings, list).map(|_| ())
     })
 }
 
@@ -21,13 +17,13 @@ fn cases() -> Vec<(Settings, List)> {
     let one = Settings { set_size: 1, proof_size: 1024, max_retries: 2, search_width: 1, dfs_bound: 1 << 48, q: 1.0 };
     // The deepest search: found, not found, and with a choice at each length.
     cases.push((one, of(1, 48)));
-    cases.push((Settings { q: 0.0, ..one }, of(1, faults::BYTES)));
+    cases.push((Settings { q: 0.0, ..one }, of(1, rules::BYTES)));
     cases.push((Settings { dfs_bound: 1025, ..one }, of(1, 0)));
     cases.push((Settings { dfs_bound: 1024, ..one }, of(1, 0)));
     cases.push((Settings { q: 0.0, dfs_bound: 9000, ..one }, of(2, 8)));
     cases.push((Settings { q: 0.001, dfs_bound: 9000, ..one }, of(3, 8)));
     // The largest set, its bins, and the longest lists.
-    for (set_size, elements) in [(32_768, 32_768), (32_768, faults::ELEMENTS), (32_767, faults::ELEMENTS), (1, faults::ELEMENTS)] {
+    for (set_size, elements) in [(32_768, 32_768), (32_768, rules::ELEMENTS), (32_767, rules::ELEMENTS), (1, rules::ELEMENTS)] {
         let settings = Settings { set_size, proof_size: 3, max_retries: 3, search_width: 40, dfs_bound: 1000, q: 0.01 };
         cases.push((settings, of(elements, 2)));
         cases.push((Settings { q: 0.0, ..settings }, of(elements, 2)));
@@ -43,7 +39,7 @@ fn cases() -> Vec<(Settings, List)> {
     cases
 }
 
-fn i_to_l() -> Vec<(Settings, List)> {
+pub fn i_to_l() -> Vec<(Settings, List)> {
     let mut cases = Vec::new();
     for (elements, proof_size, search_width, max_retries, bounds) in
         [(1, 2, 1, 3, [100, 9]), (2, 2, 1, 1, [100, 4]), (1, 0, 2, 1, [5, 2]), (1, 0, 2, 0, [0, 1])]

@@ -1,21 +1,20 @@
 //! The library against the original Rust (and `sha2`), on the same inputs.
 
-mod bernoulli;
-mod blocks;
-mod distinct;
-mod faults;
+pub mod bernoulli;
+pub mod blocks;
+pub mod distinct;
+pub mod faults;
 mod fence;
-mod guard;
-mod hash;
-mod limits;
-mod prover_refusals;
-mod refusals;
-mod rules;
-mod searches;
-mod small_case;
-mod uniform;
-mod verdicts;
-mod verifier_refusals;
+pub mod hash;
+pub mod limits;
+pub mod prover_refusals;
+pub mod refusals;
+pub mod rules;
+pub mod searches;
+pub mod small_case;
+pub mod uniform;
+pub mod verdicts;
+pub mod verifier_refusals;
 
 use crate::{args::Compare, list::List, rng::Rng};
 use blocks::Tally;
@@ -23,7 +22,10 @@ use std::fmt::Write;
 use std::time::{Duration, Instant};
 
 /// A case that differs, printed whole.
-type Checked = Result<(), String>;
+pub type Checked = Result<(), String>;
+
+/// The answer of both, or a case that differs.
+pub type Answered = Result<u32, String>;
 
 /// Runs one kind's cases and says how many there were.
 type Kind = fn(&mut Run, u64) -> Checked;
@@ -58,7 +60,7 @@ pub fn run(options: &Compare) -> Checked {
 }
 
 /// One kind under way.
-struct Run {
+pub struct Run {
     rng: Rng,
     /// The run's seed and the kind's stream, for random numbers that a part of the kind has of its own.
     seeds: (u64, u64),
@@ -120,7 +122,7 @@ fn shown_list(list: &List) -> String {
     format!("  data {}\n  ends {:?}\n  marks {:?}\n  indexes {:?}\n", hex(&list.data), list.ends, list.marks, list.indexes)
 }
 
-fn hex(bytes: &[u8]) -> String {
+pub fn hex(bytes: &[u8]) -> String {
     bytes.iter().fold(String::with_capacity(2 * bytes.len()), |mut text, byte| {
         write!(text, "{byte:02x}").expect("a string takes all");
         text

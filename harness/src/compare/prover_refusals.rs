@@ -9,33 +9,37 @@ const BLOCK: u64 = 100;
 
 /// What the prover is lent.
 #[derive(Clone)]
-struct Given {
-    settings: Settings,
-    list: List,
-    places: usize,
-    bins: usize,
+pub struct Given {
+    pub settings: Settings,
+    pub list: List,
+    pub places: usize,
+    pub bins: usize,
 }
 
 pub fn run(run: &mut Run, cases: u64) -> Checked {
     blocks::run(run, cases.div_ceil(BLOCK), |_, block| {
-        for _ in 0..BLOCK {
-            let mut given = lawful(&mut block.rng);
-            for _ in 0..1 + block.rng.below(3) {
-                fault(&mut block.rng, &mut given);
-            }
-            check(block, &given)?;
-        }
-        Ok(())
+        (0..BLOCK).try_for_each(|_| {
+            let given = lawful(&mut block.rng);
+            check_with_faults(block, given)
+        })
     })?;
     let listed = listed();
     blocks::run(run, listed.len() as u64, |number, block| check(block, &listed[number as usize]))?;
     blocks::run(run, 1, |_, block| nulls(block))
 }
 
+/// Up to three faults.
+pub fn check_with_faults(block: &mut Block, mut given: Given) -> Checked {
+    for _ in 0..1 + block.rng.below(3) {
+        fault(&mut block.rng, &mut given);
+    }
+    check(block, &given)
+}
+
 /// A search that both serve, with workspace just enough.
 fn lawful(rng: &mut Rng) -> Given {
     let settings = Settings { set_size: 1 + rng.below(6), proof_size: rng.below(5), ..short() };
-    Given { settings, list: searches::any_list(rng, settings.set_size as usize), ..enough(settings, List::default()) }
+    enough(settings, searches::any_list(rng, settings.set_size as usize))
 }
 
 /// Settings of a search that ends at once.
@@ -43,7 +47,8 @@ fn short() -> Settings {
     Settings { set_size: 1, proof_size: 1, max_retries: 1, search_width: 2, dfs_bound: 10, q: 0.5 }
 }
 
-fn enough(settings: Settings, list: List) -> Given {
+/// With workspace just enough.
+pub fn enough(settings: Settings, list: List) -> Given {
     Given { settings, list, places: settings.proof_size as usize, bins: 3 * settings.set_size as usize + 1 }
 }
 
@@ -66,49 +71,51 @@ fn fault(rng: &mut Rng, given: &mut Given) {
 
 /// Each limit just kept to and just broken, the workspace just enough and one short, and lists at and over their limits.
 fn listed() -> Vec<Given> {
-    let few = faults::long_list(5, 3);
+    let mut all = with_settings();
+    // 6 comes before 10, and each workspace is looked at.
+    for set_size in [5, 6] {
+        let whole = enough(Settings { set_size, proof_size: 3, ..short() }, faults::long_list(5, 3));
+        let bins = whole.bins - 1;
+        all.extend([(2, whole.bins), (3, bins), (2, bins), (0, 0)].map(|(places, bins)| Given { places, bins, ..whole.clone() }));
+    }
+    for list in faults::large_lists() {
+        let whole = enough(Settings { set_size: 3, ..short() }, list);
+        // 5 and 4 come before 6.
+        all.push(Given { bins: 0, ..whole.clone() });
+        all.push(whole);
+    }
+    all
+}
+
+fn with_settings() -> Vec<Given> {
+    let changes: [fn(&mut Settings); 16] = [
+        |s| s.set_size = 0,
+        |s| s.set_size = 32_769,
+        |s| s.set_size = 32_768,
+        |s| s.proof_size = 1025,
+        |s| s.max_retries = 65_536,
+        |s| s.search_width = 1 << 32,
+        |s| s.dfs_bound = (1 << 48) + 1,
+        |s| s.q = -0.0,
+        |s| s.q = 1.0,
+        |s| s.q = f64::from_bits(1f64.to_bits() + 1),
+        |s| s.set_size = 5,
+        |s| s.set_size = 6,
+        |s| (s.set_size, s.proof_size, s.q) = (0, 1025, f64::NAN),
+        |s| (s.proof_size, s.q) = (1025, f64::NAN),
+        |s| s.max_retries = 0,
+        |s| (s.max_retries, s.dfs_bound) = (0, 0),
+    ];
     let with = |change: fn(&mut Settings)| {
         let mut settings = short();
         change(&mut settings);
         enough(settings, faults::long_list(5, 3))
     };
-    let mut all = vec![
-        with(|s| s.set_size = 0),
-        with(|s| s.set_size = 32_769),
-        with(|s| s.set_size = 32_768),
-        with(|s| s.proof_size = 1025),
-        with(|s| s.max_retries = 65_536),
-        with(|s| s.search_width = 1 << 32),
-        with(|s| s.dfs_bound = (1 << 48) + 1),
-        with(|s| s.q = -0.0),
-        with(|s| s.q = 1.0),
-        with(|s| s.q = f64::from_bits(1f64.to_bits() + 1)),
-        with(|s| s.set_size = 5),
-        with(|s| s.set_size = 6),
-        with(|s| (s.set_size, s.proof_size, s.q) = (0, 1025, f64::NAN)),
-        with(|s| (s.proof_size, s.q) = (1025, f64::NAN)),
-        with(|s| s.max_retries = 0),
-        with(|s| (s.max_retries, s.dfs_bound) = (0, 0)),
-    ];
-    // 6 comes before 10, and each workspace is looked at.
-    for set_size in [5, 6] {
-        let whole = enough(Settings { set_size, proof_size: 3, ..short() }, few.clone());
-        all.push(Given { places: 2, ..whole.clone() });
-        all.push(Given { bins: 3 * set_size as usize, ..whole.clone() });
-        all.push(Given { places: 2, bins: 3 * set_size as usize, ..whole.clone() });
-        all.push(Given { places: 0, bins: 0, ..whole });
-    }
-    for list in faults::large_lists() {
-        let whole = enough(Settings { set_size: 3, ..short() }, list);
-        all.push(whole.clone());
-        // 5 and 4 come before 6.
-        all.push(Given { bins: 0, ..whole });
-    }
-    all
+    changes.map(with).to_vec()
 }
 
 /// A refusal with its number and nothing altered; without a fault, the comparison with the Rust.
-fn check(block: &mut Block, given: &Given) -> Checked {
+pub fn check(block: &mut Block, given: &Given) -> Checked {
     let Given { settings, list, places, bins } = given;
     let Err(due) = rules::prover(settings, list, *places, *bins) else {
         return searches::check(block, settings, list).map(|_| ());
@@ -135,7 +142,7 @@ fn refuse(block: &mut Block, settings: &Settings, list: &List, due: u32, lent: L
     let ours = ffi::prove(settings, after.lent(), &mut places, &mut bins, &mut out);
     let result = if out.len() < 3 { &[][..] } else { &[0; 3] };
     if ours == due && places.holds(&[]) && bins.holds(&[]) && out.holds(result) && after == *list {
-        block.tally.count("refusal", ours);
+        block.tally.count("prove", ours);
         return Ok(());
     }
     Err(format!(
@@ -164,7 +171,7 @@ fn nulls(block: &mut Block) -> Checked {
     if (ours, without_places) != (ffi::TOO_SHORT, ffi::NOT_ENOUGH) || !bins.holds(&[]) {
         return Err(format!("  null pointers: ours {ours} and {without_places}, due {} and {}", ffi::TOO_SHORT, ffi::NOT_ENOUGH));
     }
-    block.tally.count("refusal", ours);
-    block.tally.count("refusal", without_places);
+    block.tally.count("prove", ours);
+    block.tally.count("prove", without_places);
     Ok(())
 }

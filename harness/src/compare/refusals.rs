@@ -1,9 +1,10 @@
 //! Bad input through the exports: each is answered by its number, in the order of the specification's table, and writes nothing.
 
-use super::{bernoulli, guard::Guarded, hash, hex, uniform, Checked, Run, Shifted};
+use super::{bernoulli, fence::Fenced, hash, hex, uniform, verdicts, Answered, Checked, Run, Shifted};
 use crate::{ffi, rng::Rng};
 
-const LENGTHS: std::ops::RangeInclusive<usize> = 0..=40;
+/// Lengths of what is lent.
+pub const LENGTHS: std::ops::RangeInclusive<usize> = 0..=40;
 /// Unlawful doubles made at random, beside the listed ones.
 const RANDOM: u64 = 100_000;
 
@@ -13,42 +14,48 @@ pub fn run(run: &mut Run, _: u64) -> Checked {
     of_hash(run)
 }
 
-/// 7 for n = 0 comes before 8 for a length; everything lawful goes to the comparison with the Rust.
 fn of_uniform(run: &mut Run) -> Checked {
     for n in [0, 1, 3, 10, 1 << 32, (1 << 32) + 1, u64::MAX] {
         for h_len in LENGTHS {
             for out_len in LENGTHS {
-                match (h_len, out_len, n) {
-                    (16, 8, 1..) => uniform::check(&mut run.rng, u128::MAX / 3, n)?,
-                    _ => refuse_uniform(&mut run.rng, Some(h_len), n, Some(out_len))?,
-                }
+                uniform_of(&mut run.rng, Some(h_len), n, Some(out_len))?;
                 run.count();
             }
         }
         for (h_len, out_len) in [(None, Some(8)), (Some(16), None), (None, None), (None, Some(0)), (Some(0), None)] {
-            refuse_uniform(&mut run.rng, h_len, n, out_len)?;
+            uniform_of(&mut run.rng, h_len, n, out_len)?;
             run.count();
         }
     }
     Ok(())
 }
 
-/// A length of `None` is a null pointer with length 0.
-fn refuse_uniform(rng: &mut Rng, h_len: Option<usize>, n: u64, out_len: Option<usize>) -> Checked {
-    let h = any_bytes(rng, h_len);
+/// 7 for n = 0 comes before 8 for a length; everything lawful goes to the comparison with the Rust. A length of `None` is a null
+/// pointer with length 0.
+pub fn uniform_of(rng: &mut Rng, h_len: Option<usize>, n: u64, out_len: Option<usize>) -> Answered {
+    if let (Some(16), 1.., Some(8)) = (h_len, n, out_len) {
+        let i = uniform::any_hash(rng, n);
+        return uniform::check(rng, i, n);
+    }
+    let (h, was) = any_bytes(rng, h_len);
     let mut out = match out_len {
-        Some(len) => Guarded::new(rng, len),
-        None => Guarded::null(rng),
+        Some(len) => Fenced::new(rng, len, |word| word as u8),
+        None => Fenced::null(rng, |word| word as u8),
     };
     let ours = ffi::sample_uniform(h.as_ref().map(Shifted::bytes), n, &mut out);
     let due = if n == 0 { ffi::BAD_N } else { ffi::BAD_LENGTH };
-    if ours == due && out.holds(None) {
-        return Ok(());
+    let kept = is_kept(&h, &was);
+    if ours == due && out.holds(&[]) && kept {
+        return Ok(ours);
     }
-    Err(format!("  h = {}\n  n = {n} = 0x{n:x}\n  ours: {ours}\n  due: {due} and out untouched\n{}", shown(&h), out.story()))
+    Err(format!(
+        "  h = {}, {}\n  n = {n} = 0x{n:x}\n  ours: {ours}\n  due: {due}\n{}",
+        shown(&h),
+        verdicts::as_it_was(kept),
+        out.story("out", &[])
+    ))
 }
 
-/// 8 for the length comes before 3 for q; everything lawful goes to the comparison with the Rust.
 fn of_bernoulli(run: &mut Run) -> Checked {
     for q in unlawful().into_iter().chain([0.0, -0.0, 0.5, 1.0]) {
         for h_len in LENGTHS.map(Some).chain([None]) {
@@ -65,21 +72,24 @@ fn of_bernoulli(run: &mut Run) -> Checked {
     Ok(())
 }
 
-fn bernoulli_of(rng: &mut Rng, h_len: Option<usize>, q: f64) -> Checked {
+/// 8 for the length comes before 3 for q; everything lawful goes to the comparison with the Rust.
+pub fn bernoulli_of(rng: &mut Rng, h_len: Option<usize>, q: f64) -> Answered {
     let due = match h_len {
         Some(16) if (0.0..=1.0).contains(&q) => {
-            let i = rng.wide();
+            let i = bernoulli::any_hash(rng, q);
             return bernoulli::check(rng, i, q);
         }
         Some(16) => ffi::BAD_Q,
         _ => ffi::BAD_LENGTH,
     };
-    let h = any_bytes(rng, h_len);
+    let (h, was) = any_bytes(rng, h_len);
     let ours = ffi::sample_bernoulli(h.as_ref().map(Shifted::bytes), q);
-    if ours == due {
-        return Ok(());
+    let kept = is_kept(&h, &was);
+    if ours == due && kept {
+        return Ok(ours);
     }
-    Err(format!("  h = {}\n  q = {q:e}, bits 0x{:016x}\n  ours: {ours}\n  due: {due}", shown(&h), q.to_bits()))
+    let (shown, bits) = (shown(&h), q.to_bits());
+    Err(format!("  h = {shown}, {}\n  q = {q:e}, bits 0x{bits:016x}\n  ours: {ours}\n  due: {due}", verdicts::as_it_was(kept)))
 }
 
 /// Not numbers of several kinds, infinities, numbers below 0 and above 1, the nearest ones first.
@@ -114,22 +124,28 @@ fn of_hash(run: &mut Run) -> Checked {
         for out_len in LENGTHS {
             match out_len {
                 32 => hash::check(&mut run.rng, strings)?,
-                _ => hash::expect(&mut run.rng, strings, out_len, ffi::BAD_LENGTH, None)?,
-            }
+                _ => hash::expect(&mut run.rng, strings, out_len, ffi::BAD_LENGTH, &[])?,
+            };
             run.count();
         }
-        let mut out = Guarded::null(&mut run.rng);
+        let mut out = Fenced::null(&mut run.rng, |word| word as u8);
         let ours = ffi::sha256(strings, &mut out);
-        hash::verdict(strings, &out, ours, ffi::BAD_LENGTH, None)?;
+        hash::verdict(strings, &out, ours, ffi::BAD_LENGTH, &[])?;
         run.count();
     }
     Ok(())
 }
 
-fn any_bytes(rng: &mut Rng, len: Option<usize>) -> Option<Shifted> {
+/// Random bytes, so many of them lent.
+fn any_bytes(rng: &mut Rng, len: Option<usize>) -> (Option<Shifted>, [u8; 40]) {
     let mut bytes = [0; 40];
     rng.fill(&mut bytes);
-    len.map(|len| Shifted::new(rng, &bytes[..len]))
+    (len.map(|len| Shifted::new(rng, &bytes[..len])), bytes)
+}
+
+/// Whether what was lent of the bytes still is as they are.
+fn is_kept(lent: &Option<Shifted>, bytes: &[u8; 40]) -> bool {
+    lent.as_ref().is_none_or(|lent| *lent.bytes() == bytes[..lent.len])
 }
 
 fn shown(bytes: &Option<Shifted>) -> String {

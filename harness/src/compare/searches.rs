@@ -28,11 +28,9 @@ pub fn small(run: &mut Run, cases: u64) -> Checked {
             let mut settings = any_settings(&mut block.rng);
             let list = any_list(&mut block.rng, settings.set_size as usize);
             for _ in 0..FAMILY {
-                let outcome = check(block, &settings, &list)?;
-                if outcome.number == 0 {
-                    verdicts::of_proof(block, &settings, &list, &outcome)?;
-                }
-                settings.dfs_bound = next_bound(&mut block.rng, &settings, &outcome);
+                let outcome = check_and_verify(block, &settings, &list)?;
+                // With each turn the search could otherwise grow by the number of retries.
+                settings.dfs_bound = next_bound(&mut block.rng, &settings, &outcome).min(1000);
             }
         }
         Ok(())
@@ -52,11 +50,7 @@ pub fn realistic(run: &mut Run, _: u64) -> Checked {
     blocks::run(run, cases.len() as u64, |number, block| {
         let (settings, elements) = &cases[number as usize];
         let list = list_of_48(&mut block.rng, *elements);
-        let outcome = check(block, settings, &list)?;
-        if outcome.number == 0 {
-            verdicts::of_proof(block, settings, &list, &outcome)?;
-        }
-        Ok(())
+        check_and_verify(block, settings, &list).map(|_| ())
     })
 }
 
@@ -69,6 +63,15 @@ pub fn list_of_48(rng: &mut Rng, n: u64) -> List {
         list.push(&data, Some(index), 0);
     }
     list
+}
+
+/// One search, and where it finds a proof the verdicts on that and on its damaged copies.
+pub fn check_and_verify(block: &mut Block, s: &Settings, list: &List) -> Result<Outcome, String> {
+    let outcome = check(block, s, list)?;
+    if outcome.number == 0 {
+        verdicts::of_proof(block, s, list, &outcome)?;
+    }
+    Ok(outcome)
 }
 
 /// One search of a list that both serve: number, counters, count and places, the bin table, and that nothing else has changed.
@@ -102,12 +105,12 @@ pub fn check(block: &mut Block, s: &Settings, list: &List) -> Result<Outcome, St
             if lent == *list { String::new() } else { format!("  the list after:\n{}", shown_list(&lent)) }
         ));
     }
-    block.tally.count("outcome", ours);
+    block.tally.count("prove", ours);
     Ok(due)
 }
 
 /// What the Rust finds. Its proof's elements know their places.
-fn due(s: &Settings, list: &List) -> Outcome {
+pub fn due(s: &Settings, list: &List) -> Outcome {
     let (count, answer) = original::search(s, &list.elements());
     match answer {
         Ok(proof) => Outcome {
@@ -131,7 +134,7 @@ fn more(rng: &mut Rng) -> usize {
 }
 
 /// Settings of searches that end soon.
-fn any_settings(rng: &mut Rng) -> Settings {
+pub fn any_settings(rng: &mut Rng) -> Settings {
     let set_size = match rng.below(3) {
         0 => 1 << rng.below(6),
         1 => 1 + rng.below(8),
@@ -152,22 +155,22 @@ fn any_settings(rng: &mut Rng) -> Settings {
     }
 }
 
-/// Both ends, and such that no, a few, or most chains of full length pass.
-fn any_q(rng: &mut Rng, search_width: u64) -> f64 {
+/// Both ends, both zeros, and such that no, a few, or most chains of full length pass.
+pub fn any_q(rng: &mut Rng, one_in: u64) -> f64 {
     let part = (rng.word() >> 11) as f64 / (1u64 << 53) as f64;
     match rng.below(8) {
-        0 => 0.0,
+        0 => [0.0, -0.0][rng.below(2) as usize],
         1 => 1.0,
         2 => part,
         3 => bernoulli::any_q(rng),
-        _ => part / (1 + search_width) as f64,
+        _ => part / (1 + one_in) as f64,
     }
 }
 
 /// A bound at or near which the outcome may turn; a greater one where the bound was what ended the search.
-fn next_bound(rng: &mut Rng, s: &Settings, last: &Outcome) -> u64 {
+pub fn next_bound(rng: &mut Rng, s: &Settings, last: &Outcome) -> u64 {
     let count = last.count;
-    let bound = match rng.below(8) {
+    match rng.below(8) {
         0..=3 if last.number == ffi::NOT_FOUND_IN_BOUNDS => count + 1 + rng.below(4 * count + 1),
         0 => count / s.max_retries.max(1),
         1 => rng.below(count + 1),
@@ -176,29 +179,32 @@ fn next_bound(rng: &mut Rng, s: &Settings, last: &Outcome) -> u64 {
         4 => count + 1,
         5 => count,
         _ => count.saturating_sub(1),
-    };
-    // With each turn the search could otherwise grow by the number of retries.
-    bound.min(1000)
+    }
 }
 
-/// From set_size elements to more than are kept; with and without index, with empty data, with equal elements, with bytes behind the last.
+/// From set_size elements to more than are kept, of which none is long.
 pub fn any_list(rng: &mut Rng, set_size: usize) -> List {
     let len = match rng.below(4) {
         0 => set_size,
         1 => 2 * set_size + rng.below(9) as usize,
         _ => set_size + rng.below(set_size as u64 + 1) as usize,
     };
-    let (longest, indexed, repeats) = ([1, 9, 49, 100][rng.below(4) as usize], rng.below(3), rng.below(3) == 0);
+    let longest = [0, 8, 48, 99][rng.below(4) as usize];
+    list_of(rng, len, 0, longest)
+}
+
+/// So many elements with data of these lengths; with and without index, with equal elements among them or nothing else, with bytes
+/// behind the last.
+pub fn list_of(rng: &mut Rng, len: usize, shortest: usize, longest: usize) -> List {
+    let (indexed, repeats) = (rng.below(3), [0, 0, 0, 0, 1, 1, 1, 3][rng.below(8) as usize]);
     let mut list = List::default();
-    let mut room = [0; 100];
+    let mut room = vec![0; longest];
     for place in 0..len {
-        if place > 0 && repeats && rng.below(3) == 0 {
-            let again = rng.below(place as u64) as usize;
-            let (data, index) = (list.data_of(again).to_vec(), list.index_of(again));
-            list.push(&data, index, rng.word());
+        if place > 0 && rng.below(3) < repeats {
+            list.repeat(rng.below(place as u64) as usize, rng.word());
             continue;
         }
-        let data = &mut room[..rng.below(longest) as usize];
+        let data = &mut room[..shortest + rng.below((longest - shortest) as u64 + 1) as usize];
         rng.fill(data);
         let index = match indexed {
             0 => None,

@@ -1,6 +1,6 @@
 //! `alba_sample_uniform` against the Rust's `sample_uniform`.
 
-use super::{guard::Guarded, hex, Checked, Run, Shifted};
+use super::{fence::Fenced, hex, Answered, Checked, Run, Shifted};
 use crate::{ffi, rng::Rng};
 
 pub fn run(run: &mut Run, cases: u64) -> Checked {
@@ -22,23 +22,22 @@ pub fn run(run: &mut Run, cases: u64) -> Checked {
 }
 
 /// One case with a lawful n; `i` is the hash as a big-endian number.
-pub fn check(rng: &mut Rng, i: u128, n: u64) -> Checked {
+pub fn check(rng: &mut Rng, i: u128, n: u64) -> Answered {
     let bytes = i.to_be_bytes();
-    let (h, mut out) = (Shifted::new(rng, &bytes), Guarded::new(rng, 8));
+    let (h, mut out) = (Shifted::new(rng, &bytes), Fenced::new(rng, 8, |word| word as u8));
     let ours = ffi::sample_uniform(Some(h.bytes()), n, &mut out);
     let theirs = oracle::sample_uniform(&bytes, n);
-    let (number, value) = match theirs {
-        Some(value) => (0, Some(value.to_be_bytes())),
-        None => (ffi::NO_DRAW, None),
+    let (number, written) = match theirs {
+        Some(value) => (0, value.to_be_bytes().to_vec()),
+        None => (ffi::NO_DRAW, Vec::new()),
     };
-    if ours == number && out.holds(value.as_ref().map(|v| &v[..])) && h.bytes() == bytes {
-        return Ok(());
+    if ours == number && out.holds(&written) && h.bytes() == bytes {
+        return Ok(ours);
     }
     Err(format!(
-        "  h = {}\n  n = {n} = 0x{n:x}\n  ours: {ours}\n  the Rust: {theirs:?}, so {number} and out {}\n{}\n  h after: {}",
+        "  h = {}\n  n = {n} = 0x{n:x}\n  ours: {ours}\n  the Rust: {theirs:?}, so {number}\n{}  h after: {}",
         hex(&bytes),
-        value.map_or("untouched".to_string(), |v| hex(&v)),
-        out.story(),
+        out.story("out", &written),
         hex(h.bytes())
     ))
 }
@@ -56,7 +55,7 @@ pub fn edges() -> Vec<u64> {
 }
 
 /// The least number from which there is no draw, D × n, for n that is no power of two.
-fn bound(n: u64) -> u128 {
+pub fn bound(n: u64) -> u128 {
     u128::MAX / u128::from(n) * u128::from(n)
 }
 
@@ -73,7 +72,7 @@ fn around(ns: &[u64]) -> Vec<u128> {
     hashes
 }
 
-fn any_n(rng: &mut Rng) -> u64 {
+pub fn any_n(rng: &mut Rng) -> u64 {
     let n = match rng.below(6) {
         0 => rng.word(),
         1 => rng.word() >> rng.below(64),
@@ -85,7 +84,7 @@ fn any_n(rng: &mut Rng) -> u64 {
     n.max(1)
 }
 
-fn any_hash(rng: &mut Rng, n: u64) -> u128 {
+pub fn any_hash(rng: &mut Rng, n: u64) -> u128 {
     let nearby = u128::from(rng.below(9));
     let wide = u128::from(n);
     match rng.below(8) {

@@ -1,6 +1,7 @@
 //! `alba_verify` against the Rust's verifier: on each proof found, and on many damaged copies of it.
 
 use super::blocks::Block;
+use super::searches::Outcome;
 use super::{rules, shown_list, Checked};
 use crate::{ffi, ffi::Settings, list::List, original, original::ProofOf, rng::Rng};
 
@@ -13,28 +14,37 @@ pub struct Claim {
     pub list: List,
 }
 
-/// The proof as it is, and its damaged copies. What a damaged copy is worth is the Rust's to say: some are proofs all the same.
-pub fn of_proof(block: &mut Block, settings: &Settings, list: &List, found: &super::searches::Outcome) -> Checked {
-    let proof = Claim {
-        settings: *settings,
-        retry_counter: found.retry_counter,
-        search_counter: found.search_counter,
-        list: list.at(&found.places),
-    };
+impl Claim {
+    /// The proof that a search of a list found.
+    pub fn of(settings: &Settings, list: &List, found: &Outcome) -> Claim {
+        let (retry_counter, search_counter) = (found.retry_counter, found.search_counter);
+        Claim { settings: *settings, retry_counter, search_counter, list: list.at(&found.places) }
+    }
+}
+
+/// The proof as it is, and its damaged copies: both verdicts on each.
+pub fn of_proof(block: &mut Block, settings: &Settings, list: &List, found: &Outcome) -> Checked {
+    claims(&mut block.rng, settings, list, found).iter().try_for_each(|claim| check(block, claim))
+}
+
+/// The proof's damaged copies, and at the end the proof as it is, twice: its R may be the limit, which then is raised. What a damaged
+/// copy is worth is the Rust's to say: some are proofs all the same.
+pub fn claims(rng: &mut Rng, settings: &Settings, list: &List, found: &Outcome) -> Vec<Claim> {
+    let proof = Claim::of(settings, list, found);
     // What is done to the list is done under settings that the proof's own R keeps to, so that its chain is looked at.
     let mut kept_to = proof.clone();
     kept_to.settings.max_retries = kept_to.settings.max_retries.max(kept_to.retry_counter + 1);
-    let mut claims = other_counters(&mut block.rng, &proof);
-    claims.extend(other_settings(&mut block.rng, &proof));
+    let mut claims = other_counters(rng, &proof);
+    claims.extend(other_settings(rng, &proof));
     for damage in [element, byte, index, mark, unread, order, border, one_more, one_less] {
         let mut claim = kept_to.clone();
-        damage(&mut block.rng, &mut claim.list, list);
+        damage(rng, &mut claim.list, list);
         claims.push(claim);
     }
     claims.extend([proof, kept_to]);
     // The Rust has no limits, so at a limit a damaged copy may be one that only it serves.
     claims.retain(|claim| rules::settings(&claim.settings).is_ok() && rules::list(&claim.list).is_ok());
-    claims.iter().try_for_each(|claim| check(block, claim))
+    claims
 }
 
 /// One claim with a lawful list: both verdicts, and that the list lent is as it was.
@@ -47,7 +57,7 @@ pub fn check(block: &mut Block, claim: &Claim) -> Checked {
     if ours != theirs || lent != written {
         return Err(format!("{}  ours: {ours}\n  the Rust: {theirs}\n  the list is {}\n", shown(claim), as_it_was(lent == written)));
     }
-    block.tally.count("verdict", ours);
+    block.tally.count("verify", ours);
     Ok(())
 }
 

@@ -7,7 +7,6 @@ use crate::{
     ffi,
     ffi::Settings,
     list::{List, Written},
-    original,
     rng::Rng,
 };
 
@@ -16,18 +15,7 @@ const BLOCK: u64 = 100;
 pub fn run(run: &mut Run, cases: u64) -> Checked {
     blocks::run(run, cases.div_ceil(BLOCK), |_, block| {
         let proof = any_proof(&mut block.rng);
-        for _ in 0..BLOCK {
-            let mut claim = proof.clone();
-            for _ in 0..block.rng.below(4) {
-                fault(&mut block.rng, &mut claim);
-            }
-            let mut written = claim.list.written();
-            if block.rng.below(4) == 0 {
-                cut(&mut block.rng, &mut written);
-            }
-            check(block, &claim, &written)?;
-        }
-        Ok(())
+        (0..BLOCK).try_for_each(|_| check_with_faults(block, &proof))
     })?;
     let listed = listed();
     blocks::run(run, listed.len() as u64, |number, block| {
@@ -40,8 +28,21 @@ pub fn run(run: &mut Run, cases: u64) -> Checked {
     })
 }
 
+/// Up to three faults, and now and then a length of bytes that is no whole count of numbers.
+pub fn check_with_faults(block: &mut Block, proof: &Claim) -> Checked {
+    let mut claim = proof.clone();
+    for _ in 0..block.rng.below(4) {
+        fault(&mut block.rng, &mut claim);
+    }
+    let mut written = claim.list.written();
+    for _ in 0..block.rng.below(8).saturating_sub(5) {
+        cut(&mut block.rng, &mut written);
+    }
+    check(block, &claim, &written)
+}
+
 /// A proof that the Rust found, so that a refusal comes from the fault alone.
-fn any_proof(rng: &mut Rng) -> Claim {
+pub fn any_proof(rng: &mut Rng) -> Claim {
     loop {
         let settings = Settings {
             set_size: 1 + rng.below(9),
@@ -52,11 +53,9 @@ fn any_proof(rng: &mut Rng) -> Claim {
             q: 0.3,
         };
         let list = searches::any_list(rng, settings.set_size as usize);
-        let found = original::search(&settings, &list.elements()).1;
-        if let Some(proof) = found.ok().filter(|proof| proof.retry_counter < settings.max_retries) {
-            let places: Vec<u32> = proof.element_sequence.iter().map(|element| element.data.place).collect();
-            let (retry_counter, search_counter) = (proof.retry_counter, proof.search_counter);
-            return Claim { settings, retry_counter, search_counter, list: list.at(&places) };
+        let found = searches::due(&settings, &list);
+        if found.number == 0 && found.retry_counter < settings.max_retries {
+            return Claim::of(&settings, &list, &found);
         }
     }
 }
@@ -118,7 +117,7 @@ fn check(block: &mut Block, claim: &Claim, written: &Written) -> Checked {
     let lent = written.clone();
     let ours = ffi::verify(&claim.settings, claim.retry_counter, claim.search_counter, lent.lent());
     if ours == due && lent == *written {
-        block.tally.count("refusal", ours);
+        block.tally.count("verify", ours);
         return Ok(());
     }
     Err(format!(
@@ -141,7 +140,7 @@ fn nulls(block: &mut Block) -> Checked {
         if null != empty {
             return Err(format!("{}  ours with null pointers: {null}\n  ours with empty slices: {empty}\n", verdicts::shown(&claim)));
         }
-        block.tally.count("verdict", null);
+        block.tally.count("verify", null);
     }
     Ok(())
 }

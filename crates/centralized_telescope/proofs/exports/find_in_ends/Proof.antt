@@ -60,7 +60,8 @@ loop-again c =
     let h : l .i < length ns = omega (arith, length-numbersIn (length (a .ends .now) / 4) 4 (a .ends .now), t .loop-test .taken) in
     let e = c .before .before .before .before .before .before .end-at in (
       omega (arith, t .loop-test .taken),
-      end-found ns (l .i) (l .from) (e .result) (l .wrong) _ _ h (e .ensures) (c .before .before .before .either .ensures) (a .limit) (c .before .before .before .before .some-end-wrong .ensures) ∙ l .inv .1,
+      end-found ns (l .i) (l .from) (e .result) (l .wrong) _ _ h (e .ensures) (c .before .before .before .either .ensures) (a .limit)
+          (c .before .before .before .before .some-end-wrong .ensures) ∙ l .inv .1,
       data-found ns (l .i) (l .from) (e .result) (l .long) _ _ h (e .ensures) (c .either2 .ensures) (c .before .some-data-long .ensures) ∙ l .inv .2,
     )
 

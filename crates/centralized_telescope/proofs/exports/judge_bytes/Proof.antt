@@ -38,16 +38,24 @@ read-indexes-requires c κs =
     indexes-room (s .args .«data» .now) (s .args .ends .now) (s .args .marks .now) (s .args .indexes .now) (s .pre .1) _ (s .pre .2)
 
 array-share-prefix-end-numbers : tie.Need-array-share-prefix-end-numbers
-array-share-prefix-end-numbers c = front-fits _ _ _ _ (c .before .before .before .before .read-ends .ensures) (ends-read (c .before .before .before .before .before .before .before .before .before .before))
+array-share-prefix-end-numbers c =
+    front-fits _ _ _ _ (c .before .before .before .before .read-ends .ensures)
+    (ends-read (c .before .before .before .before .before .before .before .before .before .before))
 
 slice-aggregate-judge : tie.Need-slice-aggregate-judge
-slice-aggregate-judge c = front-length _ _ _ _ (c .before .before .before .before .before .read-ends .ensures) (ends-read (c .before .before .before .before .before .before .before .before .before .before .before))
+slice-aggregate-judge c =
+    front-length _ _ _ _ (c .before .before .before .before .before .read-ends .ensures)
+    (ends-read (c .before .before .before .before .before .before .before .before .before .before .before))
 
 array-share-prefix-index-numbers : tie.Need-array-share-prefix-index-numbers
-array-share-prefix-index-numbers c = front-fits _ _ _ _ (c .before .before .read-indexes .ensures) (indexes-read (c .before .before .before .before .before .before .before .before .before .before .before))
+array-share-prefix-index-numbers c =
+    front-fits _ _ _ _ (c .before .before .read-indexes .ensures)
+    (indexes-read (c .before .before .before .before .before .before .before .before .before .before .before))
 
 slice-aggregate-judge-2 : tie.Need-slice-aggregate-judge-2
-slice-aggregate-judge-2 c = front-length _ _ _ _ (c .before .before .before .read-indexes .ensures) (indexes-read (c .before .before .before .before .before .before .before .before .before .before .before .before))
+slice-aggregate-judge-2 c =
+    front-length _ _ _ _ (c .before .before .before .read-indexes .ensures)
+    (indexes-read (c .before .before .before .before .before .before .before .before .before .before .before .before))
 
 judge-requires : tie.Need-judge-requires
 judge-requires c κs =
@@ -58,7 +66,8 @@ returns : tie.Need-returns
 returns c =
     let s = c .before .before .before .before .before .before .before .before .before .before .before .before .before in
     c .judge .ensures
-    ∙ fronts-judged _ (s .args .«data» .now) (s .args .marks .now) _ _ _ _ _ _ (c .before .before .before .before .before .before .before .read-ends .ensures) (c .before .before .before .before .read-indexes .ensures) (ends-read s) (indexes-read s) (s .args .p) (s .args .retry .0) (s .args .search .0)
+    ∙ fronts-judged _ (s .args .«data» .now) (s .args .marks .now) _ _ _ _ _ _ (c .before .before .before .before .before .before .before .read-ends .ensures)
+    (c .before .before .before .before .read-indexes .ensures) (ends-read s) (indexes-read s) (s .args .p) (s .args .retry .0) (s .args .search .0)
 
 pub judge-bytes-spec : {M : Type 1} → statement M
 judge-bytes-spec =

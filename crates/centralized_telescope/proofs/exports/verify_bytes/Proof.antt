@@ -2,9 +2,11 @@
 use mathlib.Core.Path.{_≡_, sym, ap, _∙_}
 use Prim.Native.Nat.{ℕ}
 use Rattle.sampling.specs.Sample.{valueOf}
-use Rattle.centralized_telescope.specs.Elements.{listNumber}
+use Rattle.centralized_telescope.specs.Elements.{elements, listCheck, listNumber}
 use Rattle.centralized_telescope.specs.Params.{checked, checkedNumber}
-use Rattle.centralized_telescope.specs.Exports.{numbersOf}
+use Rattle.centralized_telescope.specs.ParamsLaws.{number-alone}
+use Rattle.centralized_telescope.specs.Verifier.{judged, verdict}
+use Rattle.centralized_telescope.specs.Exports.{numbersOf, exportedVerdict}
 use Rattle.centralized_telescope.proofs.VerdictAnswers.{settings-number, list-number, threshold-passed, list-refused, left-to-judge}
 use Rattle.centralized_telescope.proofs.ExportAnswers.{bytes-settings-refused, ends-not-whole, indexes-not-whole, whole-counts, over-room}
 use borrow.Author.Needs.{needs}
@@ -14,6 +16,32 @@ use Rattle.centralized_telescope.proofs.exports.verify_bytes.Tie as tie
 -- the settings pass, with X
 lawful-settings : (s : tie.After-settings) → checked (s .before .before .before .before .before .before .before .args .p) ≡ (0, valueOf (s .settings .given .0 .0))
 lawful-settings s = sym (s .before .before .check-params .ensures) ∙ ap checkedNumber (s .settings .given .1)
+
+-- both counts are whole: the exported verdict is the verdict on the numbers
+as-exported : (s : tie.Else2)
+    → (let a = s .before .before .before .before .before .before .before .before .before .before .args in
+    verdict (a .p) (a .retry .0) (a .search .0) (a .«data» .now) (numbersOf 4 (a .ends .now)) (a .marks .now) (numbersOf 8 (a .indexes .now))
+    ≡ exportedVerdict (a .p) (a .retry .0) (a .search .0) (a .«data» .now) (a .ends .now) (a .marks .now) (a .indexes .now))
+as-exported s =
+    let a = s .before .before .before .before .before .before .before .before .before .before .args in
+    whole-counts (a .p) (a .retry .0) (a .search .0) (a .«data» .now) (a .ends .now) (a .marks .now) (a .indexes .now) (s .before .if1 .left) (s .if2 .left)
+
+-- the list is accepted
+accepted : (s : tie.After-enum-told)
+    → (let a = s .before .before .before .before .before .before .before .before .before .before .before .before .before .args in
+    listCheck (a .«data» .now) (numbersOf 4 (a .ends .now)) (a .marks .now) (numbersOf 8 (a .indexes .now)) ≡ 0)
+accepted s = sym (s .before .before .check-bytes .ensures) ∙ ap listNumber (s .enum-told .given .1)
+
+-- and its elements are judged
+judged-so : (s : tie.After-enum-told)
+    → (let a = s .before .before .before .before .before .before .before .before .before .before .before .before .before .args in
+    judged (a .p) (a .retry .0) (a .search .0) (elements (a .«data» .now) (numbersOf 4 (a .ends .now)) (a .marks .now) (numbersOf 8 (a .indexes .now)))
+    ≡ exportedVerdict (a .p) (a .retry .0) (a .search .0) (a .«data» .now) (a .ends .now) (a .marks .now) (a .indexes .now))
+judged-so s =
+    let a = s .before .before .before .before .before .before .before .before .before .before .before .before .before .args in
+    left-to-judge (a .p) (a .retry .0) (a .search .0) (a .«data» .now) (numbersOf 4 (a .ends .now)) (a .marks .now) (numbersOf 8 (a .indexes .now))
+    (number-alone (lawful-settings (s .before .before .before .before .before .before))) (accepted s)
+    ∙ as-exported (s .before .before .before)
 
 check-params-requires : tie.Need-check-params-requires
 check-params-requires c κs = search needs
@@ -28,18 +56,20 @@ returns : tie.Need-returns
 returns c =
     let s = c .before .before .check-params in
     let a = c .before .before .before .before .before .before .before .args in
-    bytes-settings-refused (a .p) (a .retry .0) (a .search .0) (a .«data» .now) (a .ends .now) (a .marks .now) (a .indexes .now) _ (c .settings-verdict .ensures ∙ ap (λ (k : ℕ × ℕ). k .0) (s .ensures))
+    bytes-settings-refused (a .p) (a .retry .0) (a .search .0) (a .«data» .now) (a .ends .now) (a .marks .now) (a .indexes .now) _
+    (c .settings-verdict .ensures ∙ ap (λ (k : ℕ × ℕ). k .0) (s .ensures))
     (λ e. settings-number (s .result) (c .before .match .keys2) (sym (c .settings-verdict .ensures) ∙ e))
 
 returns-2 : tie.Need-returns-2
 returns-2 c =
     let a = c .before .before .before .before .before .before .before .before .before .args in
-    ends-not-whole (a .p) (a .retry .0) (a .search .0) (a .«data» .now) (a .ends .now) (a .marks .now) (a .indexes .now) (ap (λ (k : ℕ × ℕ). k .0) (lawful-settings (c .before .before))) (c .if1 .taken)
+    ends-not-whole (a .p) (a .retry .0) (a .search .0) (a .«data» .now) (a .ends .now) (a .marks .now) (a .indexes .now) (number-alone (lawful-settings (c .before .before))) (c .if1 .taken)
 
 returns-3 : tie.Need-returns-3
 returns-3 c =
     let a = c .before .before .before .before .before .before .before .before .before .before .args in
-    indexes-not-whole (a .p) (a .retry .0) (a .search .0) (a .«data» .now) (a .ends .now) (a .marks .now) (a .indexes .now) (ap (λ (k : ℕ × ℕ). k .0) (lawful-settings (c .before .before .before))) (c .before .if1 .left) (c .if2 .taken)
+    indexes-not-whole (a .p) (a .retry .0) (a .search .0) (a .«data» .now) (a .ends .now) (a .marks .now) (a .indexes .now)
+    (number-alone (lawful-settings (c .before .before .before))) (c .before .if1 .left) (c .if2 .taken)
 
 check-bytes-requires : tie.Need-check-bytes-requires
 check-bytes-requires c κs = search needs
@@ -54,33 +84,30 @@ returns-4 : tie.Need-returns-4
 returns-4 c =
     let l = c .before .before .check-bytes in
     let a = c .before .before .before .before .before .before .before .before .before .before .before .before .before .args in
-    list-refused (a .p) (a .retry .0) (a .search .0) (a .«data» .now) (numbersOf 4 (a .ends .now)) (a .marks .now) (numbersOf 8 (a .indexes .now)) (ap (λ (k : ℕ × ℕ). k .0) (lawful-settings (c .before .before .before .before .before .before))) _ (c .list-verdict .ensures ∙ l .ensures)
+    list-refused (a .p) (a .retry .0) (a .search .0) (a .«data» .now) (numbersOf 4 (a .ends .now)) (a .marks .now) (numbersOf 8 (a .indexes .now))
+    (number-alone (lawful-settings (c .before .before .before .before .before .before))) _ (c .list-verdict .ensures ∙ l .ensures)
     (λ e. list-number (l .result) (c .before .match2 .keys2) (sym (c .list-verdict .ensures) ∙ e))
-    ∙ whole-counts (a .p) (a .retry .0) (a .search .0) (a .«data» .now) (a .ends .now) (a .marks .now) (a .indexes .now) (c .before .before .before .before .if1 .left) (c .before .before .before .if2 .left)
+    ∙ as-exported (c .before .before .before)
 
 returns-5 : tie.Need-returns-5
 returns-5 c =
-    let a = c .before .before .before .before .before .before .before .before .before .before .before .before .before .before .args in
-    let s = lawful-settings (c .before .before .before .before .before .before .before) in
-    let l = sym (c .before .before .before .check-bytes .ensures) ∙ ap listNumber (c .before .enum-told .given .1) in
-    over-room (a .p) (a .retry .0) (a .search .0) (a .«data» .now) (numbersOf 4 (a .ends .now)) (a .marks .now) (numbersOf 8 (a .indexes .now)) _ s l (c .if3 .taken)
-    ∙ left-to-judge (a .p) (a .retry .0) (a .search .0) (a .«data» .now) (numbersOf 4 (a .ends .now)) (a .marks .now) (numbersOf 8 (a .indexes .now)) (ap (λ (k : ℕ × ℕ). k .0) s) l
-    ∙ whole-counts (a .p) (a .retry .0) (a .search .0) (a .«data» .now) (a .ends .now) (a .marks .now) (a .indexes .now) (c .before .before .before .before .before .if1 .left) (c .before .before .before .before .if2 .left)
+    let s = c .before in
+    let a = s .before .before .before .before .before .before .before .before .before .before .before .before .before .args in
+    over-room (a .p) (a .retry .0) (a .search .0) (a .«data» .now) (numbersOf 4 (a .ends .now)) (a .marks .now) (numbersOf 8 (a .indexes .now)) _
+    (lawful-settings (s .before .before .before .before .before .before)) (accepted s) (c .if3 .taken)
+    ∙ judged-so s
 
 judge-bytes-requires : tie.Need-judge-bytes-requires
-judge-bytes-requires c κs = (
-  threshold-passed (c .before .before .before .before .before .before .before .before .before .before .before .before .before .before .args .p) (valueOf (c .before .before .before .before .before .before .before .settings .given .0 .0)) (lawful-settings (c .before .before .before .before .before .before .before)),
-  sym (c .before .before .before .check-bytes .ensures) ∙ ap listNumber (c .before .enum-told .given .1),
-  c .if3 .left,
-)
+judge-bytes-requires c κs =
+    let s = c .before in (
+      threshold-passed (s .before .before .before .before .before .before .before .before .before .before .before .before .before .args .p)
+          (valueOf (s .before .before .before .before .before .before .settings .given .0 .0)) (lawful-settings (s .before .before .before .before .before .before)),
+      accepted s,
+      c .if3 .left,
+    )
 
 returns-6 : tie.Need-returns-6
-returns-6 c =
-    let a = c .before .before .before .before .before .before .before .before .before .before .before .before .before .before .before .args in
-    let l = sym (c .before .before .before .before .check-bytes .ensures) ∙ ap listNumber (c .before .before .enum-told .given .1) in
-    c .judge-bytes .ensures
-    ∙ left-to-judge (a .p) (a .retry .0) (a .search .0) (a .«data» .now) (numbersOf 4 (a .ends .now)) (a .marks .now) (numbersOf 8 (a .indexes .now)) (ap (λ (k : ℕ × ℕ). k .0) (lawful-settings (c .before .before .before .before .before .before .before .before))) l
-    ∙ whole-counts (a .p) (a .retry .0) (a .search .0) (a .«data» .now) (a .ends .now) (a .marks .now) (a .indexes .now) (c .before .before .before .before .before .before .if1 .left) (c .before .before .before .before .before .if2 .left)
+returns-6 c = c .judge-bytes .ensures ∙ judged-so (c .before .before)
 
 pub verify-bytes-spec : {M : Type 1} → statement M
 verify-bytes-spec =

@@ -12,11 +12,11 @@ use Rattle.centralized_telescope.specs.Chains.{Try}
 use Rattle.sampling.specs.Sample.{valueOf}
 use Rattle.centralized_telescope.specs.Rounds.{idOption}
 use Rattle.centralized_telescope.specs.TryLaws.{id-below}
-use Rattle.centralized_telescope.specs.Visit.{tryOn, walked, Ready}
+use Rattle.centralized_telescope.specs.Visit.{tryOn, walked, outcomeOf, Ready}
 use Rattle.centralized_telescope.proofs.Measure.{left, to-walk, to-visit}
 use Rattle.centralized_telescope.proofs.TableFacts.{set-size-most, proof-size-most, bound-most, yes-is, table-all, table-most, entry-there, bin-span, bin-read, bin-short}
-use Rattle.centralized_telescope.proofs.Walked.{visited-walk, visited-pass, visited-fail, by-walk, by-leaf}
-use Rattle.centralized_telescope.proofs.Turn.{stopped, at-end, at-bound, turn-nothing, turn-missing, turn-found, turn-write}
+use Rattle.centralized_telescope.proofs.Walked.{visited-walk, visited-pass, visited-fail, stopped, by-walk, by-leaf}
+use Rattle.centralized_telescope.proofs.Turn.{at-end, at-bound, Turning, turn-nothing, turn-missing, turn-found, turn-write}
 use borrow.Fn.Kinds.{In}
 use borrow.Fn.PlainCycle.{Measures, is, falls, and}
 use Rattle.centralized_telescope.proofs.proof.visit.Reads as visit
@@ -40,7 +40,8 @@ abbrev μ-visit : Measures 6 visit-kinds.ps ℕ
 
 abbrev μ-walk : Measures 6 walk-kinds.ps ℕ
 μ-walk κs a =
-    left (a .0 .«proof_size» - a .1 .1 .1 .1 .1 .1 .1 .1 .1 .1 .1 .0) (length (a .1 .1 .1 .1 .1 .1 .1 .1 .0 .now)) (a .1 .1 .1 .1 .1 .1 .1 .1 .1 .1 .1 .1 .1 .0 - a .1 .1 .1 .1 .1 .1 .1 .1 .1 .1 .1 .1 .0)
+    left (a .0 .«proof_size» - a .1 .1 .1 .1 .1 .1 .1 .1 .1 .1 .1 .0) (length (a .1 .1 .1 .1 .1 .1 .1 .1 .0 .now))
+    (a .1 .1 .1 .1 .1 .1 .1 .1 .1 .1 .1 .1 .1 .0 - a .1 .1 .1 .1 .1 .1 .1 .1 .1 .1 .1 .1 .0)
 
 abbrev visit-at : ℕ → In 6 visit-kinds.ps
 visit-at t = and 6 visit-kinds.ps (is 6 visit-kinds.ps μ-visit t) visit.Pre
@@ -76,40 +77,40 @@ walk-claims t = (
 visit-path : (t : ℕ) (o : visit-lts.Start (visit-claims t) (visit-at t) visit.Post) → length (take (o .args .depth) (o .args .path)) ≡ o .args .depth
 visit-path t o =
     let e : length (o .args .path) ≡ 1024 = o .good .1 .1 .1 .1 .1 .1 .1 .1 .1 .1 .1 .0 .1 .0 .1 in
-    length-take-le (o .args .depth) (o .args .path) (omega (arith, o .pre .1 .1, proof-size-most _ _ _ _ _ _ _ _ _ (o .pre .1 .0)))
+    length-take-le (o .args .depth) (o .args .path) (omega (arith, o .pre .1 .1, proof-size-most (o .pre .1 .0)))
 
 visit-add-base : (t : ℕ) → visit-lts.Need-add-base (visit-claims t) (visit-at t) visit.Post
-visit-add-base t c = let o = c .before .before .before .before .before .before .before in omega (arith, set-size-most _ _ _ _ _ _ _ _ _ (o .pre .1 .0))
+visit-add-base t c = let o = c .before .before .before .before .before .before .before in omega (arith, set-size-most (o .pre .1 .0))
 
 visit-mul-wide : (t : ℕ) → visit-lts.Need-mul-wide (visit-claims t) (visit-at t) visit.Post
-visit-mul-wide t c = let o = c .before .before .before .before .before .before .before in omega (arith, o .pre .1 .1, set-size-most _ _ _ _ _ _ _ _ _ (o .pre .1 .0))
+visit-mul-wide t c = let o = c .before .before .before .before .before .before .before in omega (arith, o .pre .1 .1, set-size-most (o .pre .1 .0))
 
 visit-shared-slice-read-wide : (t : ℕ) → visit-lts.Need-shared-slice-read-wide (visit-claims t) (visit-at t) visit.Post
-visit-shared-slice-read-wide t c = let o = c .before .before .before .before .before .before .before .before in omega (arith, table-all _ _ _ _ _ _ _ _ _ (o .pre .1 .0), o .pre .1 .1)
+visit-shared-slice-read-wide t c = let o = c .before .before .before .before .before .before .before .before in omega (arith, table-all (o .pre .1 .0), o .pre .1 .1)
 
 visit-wide-requires : (t : ℕ) → visit-lts.Need-wide-requires (visit-claims t) (visit-at t) visit.Post
 visit-wide-requires t c κs = search needs
 
 visit-add-from : (t : ℕ) → visit-lts.Need-add-from (visit-claims t) (visit-at t) visit.Post
-visit-add-from t c = let o = c .before .before .before .before .before .before .before .before .before in omega (arith, c .wide .ensures, set-size-most _ _ _ _ _ _ _ _ _ (o .pre .1 .0))
+visit-add-from t c = let o = c .before .before .before .before .before .before .before .before .before in omega (arith, c .wide .ensures, set-size-most (o .pre .1 .0))
 
 visit-add-wide : (t : ℕ) → visit-lts.Need-add-wide (visit-claims t) (visit-at t) visit.Post
-visit-add-wide t c = let o = c .before .before .before .before .before .before .before .before .before in omega (arith, o .pre .1 .1, set-size-most _ _ _ _ _ _ _ _ _ (o .pre .1 .0))
+visit-add-wide t c = let o = c .before .before .before .before .before .before .before .before .before in omega (arith, o .pre .1 .1, set-size-most (o .pre .1 .0))
 
 visit-mul-wide-2 : (t : ℕ) → visit-lts.Need-mul-wide-2 (visit-claims t) (visit-at t) visit.Post
-visit-mul-wide-2 t c = let o = c .before .before .before .before .before .before .before .before .before in omega (arith, o .pre .1 .1, set-size-most _ _ _ _ _ _ _ _ _ (o .pre .1 .0))
+visit-mul-wide-2 t c = let o = c .before .before .before .before .before .before .before .before .before in omega (arith, o .pre .1 .1, set-size-most (o .pre .1 .0))
 
 visit-shared-slice-read-wide-2 : (t : ℕ) → visit-lts.Need-shared-slice-read-wide-2 (visit-claims t) (visit-at t) visit.Post
-visit-shared-slice-read-wide-2 t c = let o = c .before .before .before .before .before .before .before .before .before .before in omega (arith, table-all _ _ _ _ _ _ _ _ _ (o .pre .1 .0), o .pre .1 .1)
+visit-shared-slice-read-wide-2 t c = let o = c .before .before .before .before .before .before .before .before .before .before in omega (arith, table-all (o .pre .1 .0), o .pre .1 .1)
 
 visit-wide-requires-2 : (t : ℕ) → visit-lts.Need-wide-requires-2 (visit-claims t) (visit-at t) visit.Post
 visit-wide-requires-2 t c κs = search needs
 
 visit-add-to : (t : ℕ) → visit-lts.Need-add-to (visit-claims t) (visit-at t) visit.Post
-visit-add-to t c = let o = c .before .before .before .before .before .before .before .before .before .before .before in omega (arith, c .wide2 .ensures, set-size-most _ _ _ _ _ _ _ _ _ (o .pre .1 .0))
+visit-add-to t c = let o = c .before .before .before .before .before .before .before .before .before .before .before in omega (arith, c .wide2 .ensures, set-size-most (o .pre .1 .0))
 
 visit-add-walk : (t : ℕ) → visit-lts.Need-add-walk (visit-claims t) (visit-at t) visit.Post
-visit-add-walk t c = let o = c .before .before .before .before .before .before .before .before .before .before .before in omega (arith, o .pre .1 .1, bound-most _ _ _ _ _ _ _ _ _ (o .pre .1 .0))
+visit-add-walk t c = let o = c .before .before .before .before .before .before .before .before .before .before .before in omega (arith, o .pre .1 .1, bound-most (o .pre .1 .0))
 
 visit-walk-requires : (t : ℕ) → visit-lts.Need-walk-requires (visit-claims t) (visit-at t) visit.Post
 visit-walk-requires t c κs =
@@ -118,11 +119,11 @@ visit-walk-requires t c κs =
     let f = c .before .before .before .wide .ensures .0 in
     let g = c .before .wide2 .ensures .0 in
     let rest = a .p .«set_size» + 1 + c .before .wide2 .result - (a .p .«set_size» + 1 + c .before .before .before .wide .result) in
-    let short : rest ≤ length (a .table .now) = bin-short _ _ _ _ _ _ _ _ _ (o .pre .1 .0) (a .id) (o .pre .1 .1 .0) _ _ f g in (
+    let short : rest ≤ length (a .table .now) = bin-short (o .pre .1 .0) (a .id) (o .pre .1 .1 .0) _ _ f g in (
       subst (λ (j : ℕ). left (a .p .«proof_size» - a .depth) (length (a .table .now)) rest < j) (o .pre .0) (to-walk _ _ rest short),
       (
         o .pre .1 .0,
-        (bin-span _ _ _ _ _ _ _ _ _ (o .pre .1 .0) (a .id) (o .pre .1 .1 .0) _ _ f g, (c .before .before .before .before .before .if1 .taken, omega (arith, o .pre .1 .1))),
+        (bin-span (o .pre .1 .0) (a .id) (o .pre .1 .1 .0) _ _ f g, (c .before .before .before .before .before .if1 .taken, omega (arith, o .pre .1 .1))),
       ),
     )
 
@@ -135,7 +136,7 @@ visit-returns t c =
     let a = o .args in
     let T = tryOn (a .p) (a .«data» .now) (a .ends .now) (a .marks .now) (a .indexes .now) (a .retry .0) in
     let l = c .before .before .before .before .before .before .before .before .if1 .taken in
-    let bin = bin-read _ _ _ _ _ _ _ _ _ (o .pre .1 .0) (a .id) (o .pre .1 .1 .0) _ _ (c .before .before .before .before .before .before .wide .ensures .0) (c .before .before .before .before .wide2 .ensures .0) in
+    let bin = bin-read (o .pre .1 .0) (a .id) (o .pre .1 .1 .0) _ _ (c .before .before .before .before .before .before .wide .ensures .0) (c .before .before .before .before .wide2 .ensures .0) in
     by-walk (a .p) (a .depth) _ _ _ _ _ l
     (visited-walk T (a .search .0) (a .h) (a .id) (take (a .depth) (a .path)) (a .depth) (a .steps) (visit-path t o) (o .pre .1 .1 .2) l
     ∙ ap (λ (es : List ℕ). walked T (a .search .0) (a .h) (take (a .depth) (a .path)) (a .depth) es (a .steps + 1)) (sym bin))
@@ -145,7 +146,7 @@ visit-says-yes-requires : (t : ℕ) → visit-lts.Need-says-yes-requires (visit-
 visit-says-yes-requires t c κs = search needs
 
 visit-add-t32 : (t : ℕ) → visit-lts.Need-add-t32 (visit-claims t) (visit-at t) visit.Post
-visit-add-t32 t c = let o = c .before .before .before .before .before .before .before .before .before in omega (arith, o .pre .1 .1, bound-most _ _ _ _ _ _ _ _ _ (o .pre .1 .0))
+visit-add-t32 t c = let o = c .before .before .before .before .before .before .before .before .before in omega (arith, o .pre .1 .1, bound-most (o .pre .1 .0))
 
 visit-returns-2 : (t : ℕ) → visit-lts.Need-returns-2 (visit-claims t) (visit-at t) visit.Post
 visit-returns-2 t c =
@@ -155,10 +156,10 @@ visit-returns-2 t c =
     let l = c .before .before .if1 .left in
     by-leaf (a .p) (a .depth) _ _ (a .places .now) l
     (visited-pass T (a .search .0) (a .h) (a .id) (take (a .depth) (a .path)) (a .depth) (a .steps) (visit-path t o) (o .pre .1 .1 .2) (omega (arith, o .pre .1 .1))
-    (yes-is _ _ _ _ _ _ _ _ _ (o .pre .1 .0) (a .h) ∙ sym (c .before .says-yes .ensures) ∙ c .if2 .taken))
+    (yes-is (o .pre .1 .0) (a .h) ∙ sym (c .before .says-yes .ensures) ∙ c .if2 .taken))
 
 visit-add-t33 : (t : ℕ) → visit-lts.Need-add-t33 (visit-claims t) (visit-at t) visit.Post
-visit-add-t33 t c = let o = c .before .before .before .before .before .before .before .before .before in omega (arith, o .pre .1 .1, bound-most _ _ _ _ _ _ _ _ _ (o .pre .1 .0))
+visit-add-t33 t c = let o = c .before .before .before .before .before .before .before .before .before in omega (arith, o .pre .1 .1, bound-most (o .pre .1 .0))
 
 visit-returns-3 : (t : ℕ) → visit-lts.Need-returns-3 (visit-claims t) (visit-at t) visit.Post
 visit-returns-3 t c =
@@ -168,7 +169,7 @@ visit-returns-3 t c =
     let l = c .before .before .if1 .left in
     by-leaf (a .p) (a .depth) _ _ (a .places .now) l
     (visited-fail T (a .search .0) (a .h) (a .id) (take (a .depth) (a .path)) (a .depth) (a .steps) (visit-path t o) (o .pre .1 .1 .2) (omega (arith, o .pre .1 .1))
-    (yes-is _ _ _ _ _ _ _ _ _ (o .pre .1 .0) (a .h) ∙ sym (c .before .says-yes .ensures) ∙ c .if2 .left))
+    (yes-is (o .pre .1 .0) (a .h) ∙ sym (c .before .says-yes .ensures) ∙ c .if2 .left))
 
 abbrev walk-Inv-loop : walk-lts.InvT-loop
 walk-Inv-loop p x retry search «data» ends marks indexes table h depth from to steps places₀ size count₀ i₀ next₀ places count i next =
@@ -179,6 +180,51 @@ walk-Inv-loop p x retry search «data» ends marks indexes table h depth from to
 abbrev walk-μ-loop : walk-lts.MeasureT-loop
 walk-μ-loop p x retry search «data» ends marks indexes table h depth from to steps places₀ size count₀ i₀ next₀ places count i next = to - i
 
+-- where the id of the next round is drawn; from there, where the call began and where the turn began
+abbrev walk-Drawn : ℕ → Type 0
+walk-Drawn t = walk-lts.After-round-id (walk-claims t) (walk-at t) walk.Post walk-Inv-loop walk-μ-loop
+
+abbrev walk-entry : (t : ℕ) → walk-Drawn t → walk-lts.Start (walk-claims t) (walk-at t) walk.Post walk-Inv-loop walk-μ-loop
+walk-entry t s = s .before .before .before .before .before .before .before .before .before .before .before .before .before .before
+
+abbrev walk-turn : (t : ℕ) → walk-Drawn t → walk-lts.At-loop (walk-claims t) (walk-at t) walk.Post walk-Inv-loop walk-μ-loop
+walk-turn t s = s .before .before .before .before .before .before .before
+
+-- what a turn knows there
+walk-turning : (t : ℕ) (s : walk-Drawn t)
+    → (let a = walk-entry t s .args in
+    let v = walk-turn t s .loop in
+    let ps = take (a .depth) (a .path) in
+    Turning (a .p) (valueOf (a .x)) (a .«data» .now) (a .ends .now) (a .marks .now) (a .indexes .now) (a .retry .0) (a .table .now) (length (a .places .now))
+    (a .search .0) (a .h) ps (a .depth) (a .from) (a .to) (v .i) (v .count)
+    (walked (tryOn (a .p) (a .«data» .now) (a .ends .now) (a .marks .now) (a .indexes .now) (a .retry .0)) (a .search .0) (a .h) ps (a .depth) (slice (a .from) (a .to) (a .table .now)) (a .steps))
+    (s .before .before .wide .result) (s .before .next-hash .result) (s .round-id .result) (v .next) (v .places) (a .places .now))
+walk-turning t s =
+    let o = walk-entry t s in
+    let v = walk-turn t s .loop in
+    record {
+      ready = o .pre .1 .0;
+      span = o .pre .1 .1 .0;
+      still = v .inv .6;
+      low = v .inv .0;
+      high = s .before .before .before .before .before .before .loop-test .taken;
+      within = s .before .before .before .before .if1 .left;
+      place-is = s .before .before .wide .ensures .0;
+      hash-is = s .before .next-hash .ensures;
+      id-is = s .round-id .ensures;
+      ahead = omega (arith, proof-size-most (o .pre .1 .0), o .pre .1 .1 .1 .0, v .inv .3);
+      path-is = v .inv .4;
+      as-lent = v .inv .5;
+    }
+
+-- a visit leaves as many places as were lent
+walk-as-many : (t : ℕ) (s : walk-lts.After-visit (walk-claims t) (walk-at t) walk.Post walk-Inv-loop walk-μ-loop)
+    → length (s .visit .last .1 .1 .1 .1 .1 .1 .1 .1 .1 .1 .1 .1 .1 .1 .0)
+    ≡ length (s .before .before .before .before .before .before .before .before .before .before .before .before .before .before .before .before .before .before .before .args .places .now)
+walk-as-many t s =
+    s .visit .kept .1 .1 .1 .1 .1 .1 .1 .1 .1 .1 .1 .1 .1 .1 .0
+    ∙ ap length (s .before .before .before .before .before .before .before .before .before .before .before .before .loop .inv .5)
+
 walk-loop-holds : (t : ℕ) → walk-lts.Need-loop-holds (walk-claims t) (walk-at t) walk.Post walk-Inv-loop walk-μ-loop
 walk-loop-holds t c = search needs
 
@@ -187,18 +233,22 @@ walk-same-length t c = search needs
 
 walk-returns : (t : ℕ) → walk-lts.Need-returns (walk-claims t) (walk-at t) walk.Post walk-Inv-loop walk-μ-loop
 walk-returns t c =
-    let o = c .before .before .before .before .before .before .before .before .before .before in
-    let a = o .args in
+    let a = c .before .before .before .before .before .before .before .before .before .before .args in
     let v = c .before .before .before .loop in
-    stopped _ _ _ _
-    (at-bound _ _ _ _ _ _ _ _ _ (o .pre .1 .0) (a .search .0) (a .h) (take (a .depth) (a .path)) (a .depth) (a .from) (a .to) (o .pre .1 .1 .0) (v .i) (v .count) _ (v .inv .6) (c .if1 .taken))
+    stopped outcomeOf _ _ _ _
+    (at-bound (tryOn (a .p) (a .«data» .now) (a .ends .now) (a .marks .now) (a .indexes .now) (a .retry .0))
+    (a .search .0) (a .h) (take (a .depth) (a .path)) (a .depth) (a .to) (a .table .now) (v .i) (v .count) _ (v .inv .6) (c .if1 .taken))
     (v .inv .5)
 
 walk-mul-place : (t : ℕ) → walk-lts.Need-mul-place (walk-claims t) (walk-at t) walk.Post walk-Inv-loop walk-μ-loop
-walk-mul-place t c = let o = c .before .before .before .before .before .before .before .before .before .before in omega (arith, o .pre .1 .1 .0 .high, table-most _ _ _ _ _ _ _ _ _ (o .pre .1 .0), set-size-most _ _ _ _ _ _ _ _ _ (o .pre .1 .0), c .before .before .loop-test .taken)
+walk-mul-place t c =
+    let o = c .before .before .before .before .before .before .before .before .before .before in
+    omega (arith, o .pre .1 .1 .0 .high, table-most (o .pre .1 .0), set-size-most (o .pre .1 .0), c .before .before .loop-test .taken)
 
 walk-shared-slice-read-place : (t : ℕ) → walk-lts.Need-shared-slice-read-place (walk-claims t) (walk-at t) walk.Post walk-Inv-loop walk-μ-loop
-walk-shared-slice-read-place t c = let o = c .before .before .before .before .before .before .before .before .before .before .before in omega (arith, table-all _ _ _ _ _ _ _ _ _ (o .pre .1 .0), o .pre .1 .1 .0 .high, c .before .before .before .loop-test .taken)
+walk-shared-slice-read-place t c =
+    let o = c .before .before .before .before .before .before .before .before .before .before .before in
+    omega (arith, table-all (o .pre .1 .0), o .pre .1 .1 .0 .high, c .before .before .before .loop-test .taken)
 
 walk-wide-requires : (t : ℕ) → walk-lts.Need-wide-requires (walk-claims t) (walk-at t) walk.Post walk-Inv-loop walk-μ-loop
 walk-wide-requires t c κs = search needs
@@ -207,7 +257,7 @@ walk-next-hash-requires : (t : ℕ) → walk-lts.Need-next-hash-requires (walk-c
 walk-next-hash-requires t c κs =
     let o = c .before .before .before .before .before .before .before .before .before .before .before .before in
     let v = c .before .before .before .before .before .loop in
-    let there = entry-there _ _ _ _ _ _ _ _ _ (o .pre .1 .0) (v .i) (omega (arith, o .pre .1 .1 .0 .low, v .inv .0)) (omega (arith, o .pre .1 .1 .0 .high, c .before .before .before .before .loop-test .taken)) in
+    let there = entry-there (o .pre .1 .0) (v .i) (omega (arith, o .pre .1 .1 .0 .low, v .inv .0)) (omega (arith, o .pre .1 .1 .0 .high, c .before .before .before .before .loop-test .taken)) in
     (o .pre .1 .0 .list, omega (arith, there, c .wide .ensures .0))
 
 walk-round-id-requires : (t : ℕ) → walk-lts.Need-round-id-requires (walk-claims t) (walk-at t) walk.Post walk-Inv-loop walk-μ-loop
@@ -217,10 +267,14 @@ walk-enum-known-drawn : (t : ℕ) → walk-lts.Need-enum-known-drawn (walk-claim
 walk-enum-known-drawn t c = search needs
 
 walk-mul-next : (t : ℕ) → walk-lts.Need-mul-next (walk-claims t) (walk-at t) walk.Post walk-Inv-loop walk-μ-loop
-walk-mul-next t c = let o = c .before .before .before .before .before .before .before .before .before .before .before .before .before .before .before .before .before in omega (arith, proof-size-most _ _ _ _ _ _ _ _ _ (o .pre .1 .0), o .pre .1 .1 .1 .0)
+walk-mul-next t c =
+    let o = c .before .before .before .before .before .before .before .before .before .before .before .before .before .before .before .before .before in
+    omega (arith, proof-size-most (o .pre .1 .0), o .pre .1 .1 .1 .0)
 
 walk-array-write-next : (t : ℕ) → walk-lts.Need-array-write-next (walk-claims t) (walk-at t) walk.Post walk-Inv-loop walk-μ-loop
-walk-array-write-next t c = let o = c .before .before .before .before .before .before .before .before .before .before .before .before .before .before .before .before .before in omega (arith, proof-size-most _ _ _ _ _ _ _ _ _ (o .pre .1 .0), o .pre .1 .1 .1 .0, c .before .before .before .before .before .before .before .before .before .before .loop .inv .3)
+walk-array-write-next t c =
+    let o = c .before .before .before .before .before .before .before .before .before .before .before .before .before .before .before .before .before in
+    omega (arith, proof-size-most (o .pre .1 .0), o .pre .1 .1 .1 .0, c .before .before .before .before .before .before .before .before .before .before .loop .inv .3)
 
 walk-add-visit : (t : ℕ) → walk-lts.Need-add-visit (walk-claims t) (walk-at t) walk.Post walk-Inv-loop walk-μ-loop
 walk-add-visit t c = search needs
@@ -247,41 +301,34 @@ walk-enum-known-outcome : (t : ℕ) → walk-lts.Need-enum-known-outcome (walk-c
 walk-enum-known-outcome t c = search needs
 
 walk-add-if2 : (t : ℕ) → walk-lts.Need-add-if2 (walk-claims t) (walk-at t) walk.Post walk-Inv-loop walk-μ-loop
-walk-add-if2 t c = let o = c .before .before .before .before .before .before .before .before .before .before .before .before .before .before .before .before .before .before .before .before .before .before .before .before in omega (arith, o .pre .1 .1 .1 .0, proof-size-most _ _ _ _ _ _ _ _ _ (o .pre .1 .0))
+walk-add-if2 t c =
+    let o = c .before .before .before .before .before .before .before .before .before .before .before .before .before .before .before .before .before .before .before .before .before .before .before .before in omega (arith, o .pre .1 .1 .1 .0, proof-size-most (o .pre .1 .0))
 
 walk-write-places-requires : (t : ℕ) → walk-lts.Need-write-places-requires (walk-claims t) (walk-at t) walk.Post walk-Inv-loop walk-μ-loop
 walk-write-places-requires t c κs =
-    let o = c .before .before .before .before .before .before .before .before .before .before .before .before .before .before .before .before .before .before .before .before .before .before .before .before .before .before in
-    let v = c .before .before .before .before .before .before .before .before .before .before .before .before .before .before .before .before .before .before .before .loop in
-    (proof-size-most _ _ _ _ _ _ _ _ _ (o .pre .1 .0), omega (arith, o .pre .1 .0 .roomy, c .before .before .before .before .before .before .before .visit .kept .1 .1 .1 .1 .1 .1 .1 .1 .1 .1 .1 .1 .1 .1 .0, ap length (v .inv .5)))
+    let s = c .before .before .before .before .before .before .before in
+    let o = s .before .before .before .before .before .before .before .before .before .before .before .before .before .before .before .before .before .before .before in
+    (proof-size-most (o .pre .1 .0), omega (arith, o .pre .1 .0 .roomy, walk-as-many t s))
 
 walk-same-length-2 : (t : ℕ) → walk-lts.Need-same-length-2 (walk-claims t) (walk-at t) walk.Post walk-Inv-loop walk-μ-loop
-walk-same-length-2 t c = c .before .before .write-places .kept .1 .1 .0 ∙ c .before .before .before .before .before .before .before .before .before .before .visit .kept .1 .1 .1 .1 .1 .1 .1 .1 .1 .1 .1 .1 .1 .1 .0 ∙ ap length (c .before .before .before .before .before .before .before .before .before .before .before .before .before .before .before .before .before .before .before .before .before .before .loop .inv .5)
+walk-same-length-2 t c = c .before .before .write-places .kept .1 .1 .0 ∙ walk-as-many t (c .before .before .before .before .before .before .before .before .before .before)
 
 walk-returns-2 : (t : ℕ) → walk-lts.Need-returns-2 (walk-claims t) (walk-at t) walk.Post walk-Inv-loop walk-μ-loop
 walk-returns-2 t c =
-    let o = c .before .before .before .before .before .before .before .before .before .before .before .before .before .before .before .before .before .before .before .before .before .before .before .before .before .before .before .before .before in
-    let a = o .args in
-    let v = c .before .before .before .before .before .before .before .before .before .before .before .before .before .before .before .before .before .before .before .before .before .before .loop in
-    let ln : a .depth < length (v .next) = omega (arith, proof-size-most _ _ _ _ _ _ _ _ _ (o .pre .1 .0), o .pre .1 .1 .1 .0, v .inv .3) in
-    turn-write _ _ _ _ _ _ _ _ _ (o .pre .1 .0) (a .search .0) (a .h) (take (a .depth) (a .path)) (a .depth) (a .from) (a .to) (o .pre .1 .1 .0) (v .i) (v .count) _ (v .inv .6) (v .inv .0) (c .before .before .before .before .before .before .before .before .before .before .before .before .before .before .before .before .before .before .before .before .before .loop-test .taken)
-    _ (c .before .before .before .before .before .before .before .before .before .before .before .before .before .before .before .before .before .wide .ensures .0) _ (c .before .before .before .before .before .before .before .before .before .before .before .before .before .before .before .before .next-hash .ensures) _ (c .before .before .before .before .before .before .before .before .before .before .before .before .before .before .before .round-id .ensures)
-    _ (c .before .before .before .before .before .before .before .before .before .before .before .before .before .drawn .given .1) (v .next) ln (v .inv .4) (c .before .before .before .before .before .before .before .before .before .before .before .before .before .before .before .before .before .before .before .if1 .left) _ _ (v .places) (a .places .now) (v .inv .5) (c .before .before .before .before .before .before .before .before .before .before .visit .ensures)
+    turn-write (walk-turning t (c .before .before .before .before .before .before .before .before .before .before .before .before .before .before .before)) _
+    (c .before .before .before .before .before .before .before .before .before .before .before .before .before .drawn .given .1) _ _
+    (c .before .before .before .before .before .before .before .before .before .before .visit .ensures)
     _ (c .before .before .before .before .before .before .outcome .given .1) (c .before .before .before .before .if2 .taken) _ (c .before .before .write-places .ensures)
 
 walk-same-length-3 : (t : ℕ) → walk-lts.Need-same-length-3 (walk-claims t) (walk-at t) walk.Post walk-Inv-loop walk-μ-loop
-walk-same-length-3 t c = c .before .before .before .before .before .before .visit .kept .1 .1 .1 .1 .1 .1 .1 .1 .1 .1 .1 .1 .1 .1 .0 ∙ ap length (c .before .before .before .before .before .before .before .before .before .before .before .before .before .before .before .before .before .before .loop .inv .5)
+walk-same-length-3 t c = walk-as-many t (c .before .before .before .before .before .before)
 
 walk-returns-3 : (t : ℕ) → walk-lts.Need-returns-3 (walk-claims t) (walk-at t) walk.Post walk-Inv-loop walk-μ-loop
 walk-returns-3 t c =
-    let o = c .before .before .before .before .before .before .before .before .before .before .before .before .before .before .before .before .before .before .before .before .before .before .before .before .before in
-    let a = o .args in
-    let v = c .before .before .before .before .before .before .before .before .before .before .before .before .before .before .before .before .before .before .loop in
-    let ln : a .depth < length (v .next) = omega (arith, proof-size-most _ _ _ _ _ _ _ _ _ (o .pre .1 .0), o .pre .1 .1 .1 .0, v .inv .3) in
-    turn-found _ _ _ _ _ _ _ _ _ (o .pre .1 .0) (a .search .0) (a .h) (take (a .depth) (a .path)) (a .depth) (a .from) (a .to) (o .pre .1 .1 .0) (v .i) (v .count) _ (v .inv .6) (v .inv .0) (c .before .before .before .before .before .before .before .before .before .before .before .before .before .before .before .before .before .loop-test .taken)
-    _ (c .before .before .before .before .before .before .before .before .before .before .before .before .before .wide .ensures .0) _ (c .before .before .before .before .before .before .before .before .before .before .before .before .next-hash .ensures) _ (c .before .before .before .before .before .before .before .before .before .before .before .round-id .ensures)
-    _ (c .before .before .before .before .before .before .before .before .before .drawn .given .1) (v .next) ln (v .inv .4) (c .before .before .before .before .before .before .before .before .before .before .before .before .before .before .before .if1 .left) _ _ (v .places) (a .places .now) (v .inv .5) (c .before .before .before .before .before .before .visit .ensures)
-    _ (c .before .before .outcome .given .1) (o .pre .1 .1 .1 .0) (c .if2 .left)
+    turn-found (walk-turning t (c .before .before .before .before .before .before .before .before .before .before .before)) _
+    (c .before .before .before .before .before .before .before .before .before .drawn .given .1) _ _ (c .before .before .before .before .before .before .visit .ensures)
+    _ (c .before .before .outcome .given .1)
+    (c .before .before .before .before .before .before .before .before .before .before .before .before .before .before .before .before .before .before .before .before .before .before .before .before .before .pre .1 .1 .1 .0) (c .if2 .left)
 
 walk-enum-known-outcome-2 : (t : ℕ) → walk-lts.Need-enum-known-outcome-2 (walk-claims t) (walk-at t) walk.Post walk-Inv-loop walk-μ-loop
 walk-enum-known-outcome-2 t c = search needs
@@ -297,38 +344,32 @@ walk-loop-less t c = search needs
 
 walk-loop-again : (t : ℕ) → walk-lts.Need-loop-again (walk-claims t) (walk-at t) walk.Post walk-Inv-loop walk-μ-loop
 walk-loop-again t c =
-    let o = c .before .before .before .before .before .before .before .before .before .before .before .before .before .before .before in
-    let a = o .args in
+    let a = c .before .before .before .before .before .before .before .before .before .before .before .before .before .before .before .args in
     let v = c .before .before .before .before .before .before .before .before .loop in
     let e = getD (a .table .now) (v .i) 0 in
     let T = tryOn (a .p) (a .«data» .now) (a .ends .now) (a .marks .now) (a .indexes .now) (a .retry .0) in
-    let ln : a .depth < length (v .next) = omega (arith, proof-size-most _ _ _ _ _ _ _ _ _ (o .pre .1 .0), o .pre .1 .1 .1 .0, v .inv .3) in
+    let k = walk-turning t (c .before) in
     let lo : a .from ≤ v .i + 1 = omega (arith, v .inv .0) in
-    let hi : v .i + 1 ≤ a .to = omega (arith, c .before .before .before .before .before .before .before .loop-test .taken) in
+    let hi : v .i + 1 ≤ a .to = omega (arith, k .high) in
     ⊎-elim
     (λ w.
-    let r = turn-missing _ _ _ _ _ _ _ _ _ (o .pre .1 .0) (a .search .0) (a .h) (take (a .depth) (a .path)) (a .depth) (a .from) (a .to) (o .pre .1 .1 .0) (v .i) (v .count) _ (v .inv .6) (v .inv .0) (c .before .before .before .before .before .before .before .loop-test .taken)
-    _ (c .before .before .before .wide .ensures .0) _ (c .before .before .next-hash .ensures) _ (c .before .round-id .ensures)
-    _ (w .1 .given .1) (v .next) ln (v .inv .4) (c .before .before .before .before .before .if1 .left) _ _ (v .places) (a .places .now) (v .inv .5) (w .4 .ensures)
-    _ (w .8 .given .1) in (
+    let r = turn-missing k _ (w .1 .given .1) _ _ (w .4 .ensures) _ (w .8 .given .1) in (
       lo,
       hi,
-      subst (λ (k : ℕ). k ≤ a .p .«dfs_bound») (sym (w .11)) (r .1),
+      subst (λ (n : ℕ). n ≤ a .p .«dfs_bound») (sym (w .11)) (r .1),
       ap length (w .12) ∙ length-set (v .next) (a .depth) e ∙ v .inv .3,
       ap (take (a .depth)) (w .12) ∙ take-set-le (a .depth) (v .next) (a .depth) e (le-refl (a .depth)) ∙ v .inv .4,
       w .10 ∙ r .2,
       r .0 ∙ ap (walked T (a .search .0) (a .h) (take (a .depth) (a .path)) (a .depth) (slice (v .i + 1) (a .to) (a .table .now))) (sym (w .11)),
     ))
-    (λ w.
-    let r = turn-nothing _ _ _ _ _ _ _ _ _ (o .pre .1 .0) (a .search .0) (a .h) (take (a .depth) (a .path)) (a .depth) (a .from) (a .to) (o .pre .1 .1 .0) (v .i) (v .count) _ (v .inv .6) (v .inv .0) (c .before .before .before .before .before .before .before .loop-test .taken)
-    _ (c .before .before .before .wide .ensures .0) _ (c .before .before .next-hash .ensures) _ (c .before .round-id .ensures) (w .1 .given .1) in (
+    (λ w. (
       lo,
       hi,
-      subst (λ (k : ℕ). k ≤ a .p .«dfs_bound») (sym (w .3)) (v .inv .2),
+      subst (λ (n : ℕ). n ≤ a .p .«dfs_bound») (sym (w .3)) (v .inv .2),
       ap length (w .4) ∙ v .inv .3,
       ap (take (a .depth)) (w .4) ∙ v .inv .4,
       w .2 ∙ v .inv .5,
-      r ∙ ap (walked T (a .search .0) (a .h) (take (a .depth) (a .path)) (a .depth) (slice (v .i + 1) (a .to) (a .table .now))) (sym (w .3)),
+      turn-nothing k (w .1 .given .1) ∙ ap (walked T (a .search .0) (a .h) (take (a .depth) (a .path)) (a .depth) (slice (v .i + 1) (a .to) (a .table .now))) (sym (w .3)),
     ))
     (c .match .came)
 
@@ -337,11 +378,11 @@ walk-same-length-4 t c = search needs
 
 walk-returns-4 : (t : ℕ) → walk-lts.Need-returns-4 (walk-claims t) (walk-at t) walk.Post walk-Inv-loop walk-μ-loop
 walk-returns-4 t c =
-    let o = c .before .before .before .before .before .before .before .before in
-    let a = o .args in
+    let a = c .before .before .before .before .before .before .before .before .args in
     let v = c .before .loop in
-    stopped _ _ _ _
-    (at-end _ _ _ _ _ _ _ _ _ (o .pre .1 .0) (a .search .0) (a .h) (take (a .depth) (a .path)) (a .depth) (a .from) (a .to) (o .pre .1 .1 .0) (v .i) (v .count) _ (v .inv .6) (c .loop-test .left) (v .inv .1))
+    stopped outcomeOf _ _ _ _
+    (at-end (tryOn (a .p) (a .«data» .now) (a .ends .now) (a .marks .now) (a .indexes .now) (a .retry .0))
+    (a .search .0) (a .h) (take (a .depth) (a .path)) (a .depth) (a .to) (a .table .now) (v .i) (v .count) _ (v .inv .6) (c .loop-test .left) (v .inv .1))
     (v .inv .5)
 
 pub +visit+walk-spec : {M : Type 1} → statement M

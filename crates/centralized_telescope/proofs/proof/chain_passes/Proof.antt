@@ -130,7 +130,8 @@ returns-4 c =
     (nowhere _ _ (c .before .before .round-id2 .ensures) (c .enum-told3 .given .1)))
 
 add-followed : tie.Need-add-followed Inv-loop μ-loop
-add-followed c = omega (arith, c .before .before .before .before .before .before .before .before .before .before .loop-test .taken, entry (c .before .before .before .before .before .before .before .before .before .before .before) .good .1 .1 .1 .1 .1 .0 .0)
+add-followed c =
+    omega (arith, c .before .before .before .before .before .before .before .before .before .before .loop-test .taken, entry (c .before .before .before .before .before .before .before .before .before .before .before) .good .1 .1 .1 .1 .1 .0 .0)
 
 loop-less : tie.Need-loop-less Inv-loop μ-loop
 loop-less c = omega (arith, c .before .before .before .before .before .before .before .before .before .before .loop-test .taken)

@@ -11,7 +11,7 @@ use Rattle.centralized_telescope.specs.ParamsLaws.{lawful}
 use Rattle.centralized_telescope.specs.Elements.{Element, elements}
 use Rattle.centralized_telescope.specs.Search.{triesFrom, searched}
 use Rattle.centralized_telescope.specs.Prover.{tableAfter}
-use Rattle.centralized_telescope.proofs.ManyTries.{next-table, all-missing, found-within, all-found, not-in-bounds, not-found, filled-ready}
+use Rattle.centralized_telescope.proofs.ManyTries.{next-table, Attempted, all-missing, found-within, all-found, not-in-bounds, not-found, filled-ready}
 use Rattle.centralized_telescope.proofs.proof.make_tries.Statement.{statement}
 use Rattle.centralized_telescope.proofs.proof.make_tries.Tie as tie
 
@@ -29,6 +29,54 @@ unfolding tableAfter searched
 loop-holds c =
     let a = c .before .before .before .before .before .before .args in
     (search needs, search needs, refl, refl, refl, ap (λ (w : ℕ). triesFrom (a .p) (elements (a .«data» .now) (a .ends .now) (a .marks .now) (a .indexes .now)) w 0 0) (sym (sub-zero (a .p .«max_retries»))))
+
+-- where a try is made; from there, where the call began, where the turn began, and the list's elements
+abbrev Made : Type 0
+Made = tie.After-search-try Inv-loop μ-loop
+
+abbrev entry : Made → tie.Start Inv-loop μ-loop
+entry s = s .before .before .before .before .before .before .before .before .before .before .before .before .before .before .before .before
+
+abbrev turn : Made → tie.At-loop Inv-loop μ-loop
+turn s = s .before .before .before .before .before .before .before .before .before
+
+abbrev list : Made → List Element
+list s =
+    let a = entry s .args in
+    elements (a .«data» .now) (a .ends .now) (a .marks .now) (a .indexes .now)
+
+-- what a turn knows there
+attempted : (s : Made)
+    → (let a = entry s .args in
+    let v = turn s .loop in
+    Attempted (a .p) (list s) (a .p .«max_retries» - (v .r + 1)) (v .r) (v .steps) (s .search-try .result) (s .search-try .last .1 .1 .1 .1 .1 .1 .1 .1 .0) (v .places) (a .places .now))
+attempted s =
+    let m = entry s .args .p .«max_retries» in
+    let v = turn s .loop in
+    let more : m - v .r ≡ suc (m - (v .r + 1)) = omega (arith, s .before .before .before .before .before .before .before .if1 .taken) in
+    record {
+      still = v .inv .5 ∙ ap (λ (w : ℕ). triesFrom (entry s .args .p) (list s) w (v .r) (v .steps)) more;
+      answer-is = s .search-try .ensures .0;
+      places-are = s .search-try .ensures .1;
+      as-lent = v .inv .4;
+    }
+
+table-next : (s : Made)
+    → (let a = entry s .args in
+    s .before .before .before .before .before .fill-table .last .1 .1 .1 .1 .1 .1 .0 ≡ tableAfter (a .p) (list s)
+    (turn s .loop .r + 1) (a .table .now))
+table-next s =
+    let a = entry s .args in
+    let v = turn s .loop in
+    next-table (a .p) (list s) (v .r) _ (v .table) (a .table .now) (v .inv .3) (s .before .before .before .before .before .fill-table .ensures)
+
+-- a count within the bound can be added
+sum-fits : (s : Made) (t : ℕ) → t ≤ entry s .args .p .«dfs_bound» → turn s .loop .steps + t ≤ 18446744073709551615
+sum-fits s t l =
+    let o = entry s in
+    let v = turn s .loop in
+    let law = lawful (o .args .p) (valueOf (o .args .x)) (o .pre .0) in
+    omega (arith, law .limits .max-retries, law .limits .dfs-bound, v .inv .1, s .before .before .before .before .before .before .before .if1 .taken)
 
 add-r : tie.Need-add-r Inv-loop μ-loop
 add-r c = search needs
@@ -54,56 +102,44 @@ enum-known-one c = search needs
 
 add-t25 : tie.Need-add-t25 Inv-loop μ-loop
 add-t25 c =
-    let o = c .before .before .before .before .before .before .before .before .before .before .before .before .before .before .before .before .before .before .before .before .before in
-    let a = o .args in
-    let v = c .before .before .before .before .before .before .before .before .before .before .before .before .before .before .loop in
-    let ew : a .p .«max_retries» - v .r ≡ suc (a .p .«max_retries» - (v .r + 1)) = omega (arith, c .before .before .before .before .before .before .before .before .before .before .before .before .if1 .taken) in
-    let law = lawful (a .p) (valueOf (a .x)) (o .pre .0) in
-    let t = found-within (a .p) (elements (a .«data» .now) (a .ends .now) (a .marks .now) (a .indexes .now)) (a .p .«max_retries» - v .r) (a .p .«max_retries» - (v .r + 1)) (v .r) (v .steps) ew (v .inv .5) _ _ (v .places) (a .places .now) (v .inv .4) (c .before .before .before .before .before .search-try .ensures) _ _ (c .before .one .given .1) in
-    omega (arith, t, law .limits .max-retries, law .limits .dfs-bound, v .inv .1, c .before .before .before .before .before .before .before .before .before .before .before .before .if1 .taken)
+    let s = c .before .before .before .before .before in
+    omega (arith, sum-fits s _ (found-within (attempted s) _ _ (c .before .one .given .1)))
 
 same-length : tie.Need-same-length Inv-loop μ-loop
-same-length c = c .before .before .before .before .before .search-try .kept .1 .1 .1 .1 .1 .1 .1 .1 .0 ∙ ap length (c .before .before .before .before .before .before .before .before .before .before .before .before .before .before .loop .inv .4)
+same-length c =
+    c .before .before .before .before .before .search-try .kept .1 .1 .1 .1 .1 .1 .1 .1 .0
+    ∙ ap length (c .before .before .before .before .before .before .before .before .before .before .before .before .before .before .loop .inv .4)
 
 same-length-2 : tie.Need-same-length-2 Inv-loop μ-loop
-same-length-2 c = c .before .before .before .before .before .before .before .before .before .before .fill-table .kept .1 .1 .1 .1 .1 .1 .0 ∙ c .before .before .before .before .before .before .before .before .before .before .before .before .before .before .loop .inv .2
+same-length-2 c =
+    c .before .before .before .before .before .before .before .before .before .before .fill-table .kept .1 .1 .1 .1 .1 .1 .0
+    ∙ c .before .before .before .before .before .before .before .before .before .before .before .before .before .before .loop .inv .2
 
 returns : tie.Need-returns Inv-loop μ-loop
-returns c =
-    let o = c .before .before .before .before .before .before .before .before .before .before .before .before .before .before .before .before .before .before .before .before .before in
-    let a = o .args in
-    let v = c .before .before .before .before .before .before .before .before .before .before .before .before .before .before .loop in
-    let ew : a .p .«max_retries» - v .r ≡ suc (a .p .«max_retries» - (v .r + 1)) = omega (arith, c .before .before .before .before .before .before .before .before .before .before .before .before .if1 .taken) in
-    all-found (a .p) (elements (a .«data» .now) (a .ends .now) (a .marks .now) (a .indexes .now)) (a .p .«max_retries» - v .r) (a .p .«max_retries» - (v .r + 1)) (v .r) (v .steps) ew (v .inv .5) _ _ (v .places) (a .places .now) (v .inv .4) (c .before .before .before .before .before .search-try .ensures) _ _ (c .before .one .given .1) _ (a .table .now) (next-table (a .p) (elements (a .«data» .now) (a .ends .now) (a .marks .now) (a .indexes .now)) (v .r) _ (v .table) (a .table .now) (v .inv .3) (c .before .before .before .before .before .before .before .before .before .before .fill-table .ensures))
+returns c = let s = c .before .before .before .before .before in all-found (attempted s) _ _ (c .before .one .given .1) _ _ (table-next s)
 
 enum-known-one-2 : tie.Need-enum-known-one-2 Inv-loop μ-loop
 enum-known-one-2 c = search needs
 
 add-steps : tie.Need-add-steps Inv-loop μ-loop
 add-steps c =
-    let o = c .before .before .before .before .before .before .before .before .before .before .before .before .before .before .before .before .before .before .before .before .before in
-    let a = o .args in
-    let v = c .before .before .before .before .before .before .before .before .before .before .before .before .before .before .loop in
-    let ew : a .p .«max_retries» - v .r ≡ suc (a .p .«max_retries» - (v .r + 1)) = omega (arith, c .before .before .before .before .before .before .before .before .before .before .before .before .if1 .taken) in
-    let law = lawful (a .p) (valueOf (a .x)) (o .pre .0) in
-    let t = all-missing (a .p) (elements (a .«data» .now) (a .ends .now) (a .marks .now) (a .indexes .now)) (a .p .«max_retries» - v .r) (a .p .«max_retries» - (v .r + 1)) (v .r) (v .steps) ew (v .inv .5) _ _ (v .places) (a .places .now) (v .inv .4) (c .before .before .before .before .before .search-try .ensures) _ (c .before .one2 .given .1) .2 in
-    omega (arith, t, law .limits .max-retries, law .limits .dfs-bound, v .inv .1, c .before .before .before .before .before .before .before .before .before .before .before .before .if1 .taken)
+    let s = c .before .before .before .before .before in
+    omega (arith, sum-fits s _ (all-missing (attempted s) _ (c .before .one2 .given .1) .2))
 
 loop-less : tie.Need-loop-less Inv-loop μ-loop
 loop-less c = search needs
 
 loop-again : tie.Need-loop-again Inv-loop μ-loop
 loop-again c =
-    let o = c .before .before .before .before .before .before .before .before .before .before .before .before .before .before .before .before .before .before .before .before .before in
-    let a = o .args in
-    let v = c .before .before .before .before .before .before .before .before .before .before .before .before .before .before .loop in
-    let ew : a .p .«max_retries» - v .r ≡ suc (a .p .«max_retries» - (v .r + 1)) = omega (arith, c .before .before .before .before .before .before .before .before .before .before .before .before .if1 .taken) in
-    let law = lawful (a .p) (valueOf (a .x)) (o .pre .0) in
-    let q = all-missing (a .p) (elements (a .«data» .now) (a .ends .now) (a .marks .now) (a .indexes .now)) (a .p .«max_retries» - v .r) (a .p .«max_retries» - (v .r + 1)) (v .r) (v .steps) ew (v .inv .5) _ _ (v .places) (a .places .now) (v .inv .4) (c .before .before .before .before .before .search-try .ensures) _ (c .before .one2 .given .1) in (
-      omega (arith, c .before .before .before .before .before .before .before .before .before .before .before .before .if1 .taken),
+    let s = c .before .before .before .before .before in
+    let o = entry s in
+    let v = turn s .loop in
+    let law = lawful (o .args .p) (valueOf (o .args .x)) (o .pre .0) in
+    let q = all-missing (attempted s) _ (c .before .one2 .given .1) in (
+      omega (arith, s .before .before .before .before .before .before .before .if1 .taken),
       omega (arith, q .2, law .limits .dfs-bound, v .inv .1),
-      c .before .before .before .before .before .before .before .before .before .before .fill-table .kept .1 .1 .1 .1 .1 .1 .0 ∙ v .inv .2,
-      next-table (a .p) (elements (a .«data» .now) (a .ends .now) (a .marks .now) (a .indexes .now)) (v .r) _ (v .table) (a .table .now) (v .inv .3) (c .before .before .before .before .before .before .before .before .before .before .fill-table .ensures),
+      s .before .before .before .before .before .fill-table .kept .1 .1 .1 .1 .1 .1 .0 ∙ v .inv .2,
+      table-next s,
       q .1,
       q .0,
     )
@@ -120,7 +156,8 @@ returns-2 c =
     let a = o .args in
     let v = c .before .before .before .before .loop in
     let e : a .p .«max_retries» - v .r ≡ 0 = omega (arith, c .before .before .if1 .left) in
-    not-in-bounds (a .p) (elements (a .«data» .now) (a .ends .now) (a .marks .now) (a .indexes .now)) (a .p .«max_retries» - v .r) (v .r) (v .steps) e (v .inv .5) _ _ _ _ (v .inv .3) (v .inv .4) (c .if2 .taken)
+    not-in-bounds (a .p) (elements (a .«data» .now) (a .ends .now) (a .marks .now) (a .indexes .now)) (a .p .«max_retries» - v .r) (v .r) (v .steps) e (v .inv .5) _
+    _ _ _ (v .inv .3) (v .inv .4) (c .if2 .taken)
 
 same-length-5 : tie.Need-same-length-5 Inv-loop μ-loop
 same-length-5 c = search needs
@@ -134,7 +171,8 @@ returns-3 c =
     let a = o .args in
     let v = c .before .before .before .before .loop in
     let e : a .p .«max_retries» - v .r ≡ 0 = omega (arith, c .before .before .if1 .left) in
-    not-found (a .p) (elements (a .«data» .now) (a .ends .now) (a .marks .now) (a .indexes .now)) (a .p .«max_retries» - v .r) (v .r) (v .steps) e (v .inv .5) _ _ _ _ (v .inv .3) (v .inv .4) (c .if2 .left)
+    not-found (a .p) (elements (a .«data» .now) (a .ends .now) (a .marks .now) (a .indexes .now)) (a .p .«max_retries» - v .r) (v .r) (v .steps) e (v .inv .5) _ _ _
+    _ (v .inv .3) (v .inv .4) (c .if2 .left)
 
 pub make-tries-spec : {M : Type 1} → statement M
 make-tries-spec =

@@ -11,8 +11,9 @@ use Rattle.sampling.specs.Sample.{valueOf}
 use Rattle.centralized_telescope.specs.Rounds.{idOption}
 use Rattle.centralized_telescope.specs.Chains.{Try}
 use Rattle.centralized_telescope.specs.TryLaws.{id-below}
-use Rattle.centralized_telescope.specs.Visit.{tryOn, tried, Ready}
-use Rattle.centralized_telescope.proofs.OneTry.{try-stopped, tried-end, tried-full, try-nothing, try-missing, try-found}
+use Rattle.centralized_telescope.specs.Visit.{tryOn, tried, attemptOf, Ready}
+use Rattle.centralized_telescope.proofs.Walked.{stopped}
+use Rattle.centralized_telescope.proofs.OneTry.{tried-end, tried-full, Trying, try-nothing, try-missing, try-found}
 use Rattle.centralized_telescope.proofs.proof.search_try.Statement.{statement}
 use Rattle.centralized_telescope.proofs.proof.search_try.Tie as tie
 
@@ -23,6 +24,39 @@ Inv-loop p x retry «data» ends marks indexes table places₀ count₀ s₀ pla
 
 abbrev μ-loop : tie.MeasureT-loop
 μ-loop p x retry «data» ends marks indexes table places₀ count₀ s₀ places count s = p .«search_width» - s
+
+-- where the id of the start round is drawn; from there, where the call began, where the turn began, and the try
+abbrev Drawn : Type 0
+Drawn = tie.After-round-id Inv-loop μ-loop
+
+abbrev entry : Drawn → tie.Start Inv-loop μ-loop
+entry s = s .before .before .before .before .before .before .before .before .before .before .before .before .before
+
+abbrev turn : Drawn → tie.At-loop Inv-loop μ-loop
+turn s = s .before .before .before .before .before .before
+
+abbrev the-try : Drawn → Try
+the-try s =
+    let a = entry s .args in
+    tryOn (a .p) (a .«data» .now) (a .ends .now) (a .marks .now) (a .indexes .now) (a .retry .0)
+
+-- what a turn knows there
+trying : (s : Drawn)
+    → (let a = entry s .args in
+    let v = turn s .loop in
+    Trying (the-try s) (a .p .«search_width» - (v .s + 1)) (v .s) (v .count) (tried (the-try s) (a .p .«search_width») 0 0)
+    (s .before .start-hash .result) (s .round-id .result) (v .places) (a .places .now))
+trying s =
+    let w = entry s .args .p .«search_width» in
+    let v = turn s .loop in
+    let more : w - v .s ≡ suc (w - (v .s + 1)) = omega (arith, s .before .before .before .before .if1 .taken) in
+    record {
+      still = v .inv .3 ∙ ap (λ (u : ℕ). tried (the-try s) u (v .s) (v .count)) more;
+      within = s .before .before .if2 .left;
+      hash-is = s .before .start-hash .ensures;
+      id-is = s .round-id .ensures;
+      as-lent = v .inv .2;
+    }
 
 loop-holds : tie.Need-loop-holds Inv-loop μ-loop
 loop-holds c =
@@ -36,7 +70,7 @@ returns : tie.Need-returns Inv-loop μ-loop
 returns c =
     let a = c .before .before .before .before .before .before .before .before .before .before .before .args in
     let v = c .before .before .before .before .loop in
-    try-stopped _ _ _ _ (v .inv .3 ∙ tried-full (tryOn (a .p) (a .«data» .now) (a .ends .now) (a .marks .now) (a .indexes .now) (a .retry .0)) (a .p .«search_width» - v .s) (v .s) (v .count) (c .if2 .taken)) (v .inv .2)
+    stopped attemptOf _ _ _ _ (v .inv .3 ∙ tried-full (tryOn (a .p) (a .«data» .now) (a .ends .now) (a .marks .now) (a .indexes .now) (a .retry .0)) (a .p .«search_width» - v .s) (v .s) (v .count) (c .if2 .taken)) (v .inv .2)
 
 start-hash-requires : tie.Need-start-hash-requires Inv-loop μ-loop
 start-hash-requires c κs = search needs
@@ -56,7 +90,8 @@ visit-requires c κs =
           (λ (l : List ℕ). Ready (a .p) (valueOf (a .x)) (a .«data» .now) (a .ends .now) (a .marks .now) (a .indexes .now) (a .retry .0) (a .table .now) (length l))
           (sym (v .inv .2)) (o .pre),
       (
-        id-below (tryOn (a .p) (a .«data» .now) (a .ends .now) (a .marks .now) (a .indexes .now) (a .retry .0)) _ _ (sym (c .before .before .before .before .round-id .ensures) ∙ ap idOption (c .before .before .drawn .given .1)),
+        id-below (tryOn (a .p) (a .«data» .now) (a .ends .now) (a .marks .now) (a .indexes .now) (a .retry .0)) _ _
+            (sym (c .before .before .before .before .round-id .ensures) ∙ ap idOption (c .before .before .drawn .given .1)),
         omega arith,
         c .before .before .before .before .before .before .if2 .left,
       ),
@@ -66,15 +101,15 @@ enum-known-outcome : tie.Need-enum-known-outcome Inv-loop μ-loop
 enum-known-outcome c = search needs
 
 same-length-2 : tie.Need-same-length-2 Inv-loop μ-loop
-same-length-2 c = c .before .before .before .before .before .visit .kept .1 .1 .1 .1 .1 .1 .1 .1 .1 .1 .1 .1 .1 .1 .0 ∙ ap length (c .before .before .before .before .before .before .before .before .before .before .before .before .before .before .before .before .loop .inv .2)
+same-length-2 c =
+    c .before .before .before .before .before .visit .kept .1 .1 .1 .1 .1 .1 .1 .1 .1 .1 .1 .1 .1 .1 .0
+    ∙ ap length (c .before .before .before .before .before .before .before .before .before .before .before .before .before .before .before .before .loop .inv .2)
 
 returns-2 : tie.Need-returns-2 Inv-loop μ-loop
 returns-2 c =
-    let a = c .before .before .before .before .before .before .before .before .before .before .before .before .before .before .before .before .before .before .before .before .before .before .before .args in
-    let v = c .before .before .before .before .before .before .before .before .before .before .before .before .before .before .before .before .loop in
-    let ew : a .p .«search_width» - v .s ≡ suc (a .p .«search_width» - (v .s + 1)) = omega (arith, c .before .before .before .before .before .before .before .before .before .before .before .before .before .before .if1 .taken) in
-    try-found (tryOn (a .p) (a .«data» .now) (a .ends .now) (a .marks .now) (a .indexes .now) (a .retry .0)) (a .p .«search_width» - v .s) (a .p .«search_width» - (v .s + 1)) (v .s) (v .count) ew _ (v .inv .3) _ (c .before .before .before .before .before .before .before .before .before .before .before .start-hash .ensures) _ (c .before .before .before .before .before .before .before .before .before .before .round-id .ensures)
-    _ (c .before .before .before .before .before .before .before .before .drawn .given .1) (c .before .before .before .before .before .before .before .before .before .before .before .before .if2 .left) _ _ (v .places) (a .places .now) (v .inv .2) (c .before .before .before .before .before .visit .ensures) _ (c .before .outcome .given .1)
+    try-found (trying (c .before .before .before .before .before .before .before .before .before .before)) _
+    (c .before .before .before .before .before .before .before .before .drawn .given .1) _ _ (c .before .before .before .before .before .visit .ensures) _
+    (c .before .outcome .given .1)
 
 enum-known-outcome-2 : tie.Need-enum-known-outcome-2 Inv-loop μ-loop
 enum-known-outcome-2 c = search needs
@@ -92,23 +127,20 @@ loop-again : tie.Need-loop-again Inv-loop μ-loop
 loop-again c =
     let a = c .before .before .before .before .before .before .before .before .before .before .before .before .before .before .args in
     let v = c .before .before .before .before .before .before .before .loop in
-    let ew : a .p .«search_width» - v .s ≡ suc (a .p .«search_width» - (v .s + 1)) = omega (arith, c .before .before .before .before .before .if1 .taken) in
     let hi : v .s + 1 ≤ a .p .«search_width» = omega (arith, c .before .before .before .before .before .if1 .taken) in
     ⊎-elim
     (λ w.
-    let r = try-missing (tryOn (a .p) (a .«data» .now) (a .ends .now) (a .marks .now) (a .indexes .now) (a .retry .0)) (a .p .«search_width» - v .s) (a .p .«search_width» - (v .s + 1)) (v .s) (v .count) ew _ (v .inv .3) _ (c .before .before .start-hash .ensures) _ (c .before .round-id .ensures)
-    _ (w .1 .given .1) (c .before .before .before .if2 .left) _ _ (v .places) (a .places .now) (v .inv .2) (w .4 .ensures) _ (w .8 .given .1) in (
+    let r = try-missing (trying (c .before)) _ (w .1 .given .1) _ _ (w .4 .ensures) _ (w .8 .given .1) in (
       hi,
       subst (λ (u : ℕ). u ≤ a .p .«dfs_bound») (sym (w .11)) (r .1),
       w .10 ∙ r .2,
       rw (w .11) (r .0),
     ))
-    (λ w.
-    let r = try-nothing (tryOn (a .p) (a .«data» .now) (a .ends .now) (a .marks .now) (a .indexes .now) (a .retry .0)) (a .p .«search_width» - v .s) (a .p .«search_width» - (v .s + 1)) (v .s) (v .count) ew _ (v .inv .3) _ (c .before .before .start-hash .ensures) _ (c .before .round-id .ensures) (w .1 .given .1) in (
+    (λ w. (
       hi,
       subst (λ (u : ℕ). u ≤ a .p .«dfs_bound») (sym (w .3)) (v .inv .1),
       w .2 ∙ v .inv .2,
-      rw (w .3) r,
+      rw (w .3) (try-nothing (trying (c .before)) (w .1 .given .1)),
     ))
     (c .match .came)
 
@@ -120,7 +152,7 @@ returns-3 c =
     let a = c .before .before .before .before .before .before .before .before .before .args in
     let v = c .before .before .loop in
     let e : a .p .«search_width» - v .s ≡ 0 = omega (arith, c .if1 .left) in
-    try-stopped _ _ _ _ (v .inv .3 ∙ tried-end (tryOn (a .p) (a .«data» .now) (a .ends .now) (a .marks .now) (a .indexes .now) (a .retry .0)) (a .p .«search_width» - v .s) (v .s) (v .count) e) (v .inv .2)
+    stopped attemptOf _ _ _ _ (v .inv .3 ∙ tried-end (tryOn (a .p) (a .«data» .now) (a .ends .now) (a .marks .now) (a .indexes .now) (a .retry .0)) (a .p .«search_width» - v .s) (v .s) (v .count) e) (v .inv .2)
 
 pub search-try-spec : {M : Type 1} → statement M
 search-try-spec =

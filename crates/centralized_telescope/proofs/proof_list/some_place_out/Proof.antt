@@ -3,9 +3,11 @@ use mathlib.Core.Path.{_≡_, refl, sym, _∙_}
 use Prim.Native.Nat.{_-_, _≤_}
 use native.Mathlib.Omega.{arith}
 use borrow.Author.Needs.{needs}
+use borrow.Author.Tests.{le-leb, lt-leb}
+use lib.Dec.{leb}
 use lib.ListN.{length, drop}
 use Rattle.centralized_telescope.specs.WrittenOut.{placeOut}
-use Rattle.centralized_telescope.proofs.ProofWriting.{place-here, place-behind, places-done}
+use Rattle.centralized_telescope.specs.ListsLaws.{some-here, some-behind, some-done}
 use Rattle.centralized_telescope.proofs.proof_list.some_place_out.Statement.{statement}
 use Rattle.centralized_telescope.proofs.proof_list.some_place_out.Tie as tie
 
@@ -31,7 +33,7 @@ returns : tie.Need-returns Inv-loop μ-loop
 returns c =
     let z = c .before .before .before .before .args in
     let l = c .before .before .before .loop in
-    sym (place-here (z .places .now) (l .i) (z .len) (search needs) (omega arith)) ∙ l .inv .1
+    sym (some-here (leb (z .len)) (z .places .now) (l .i) 0 (search needs) (le-leb (z .len) _ (omega arith))) ∙ l .inv .1
 
 add-i : tie.Need-add-i Inv-loop μ-loop
 add-i c = search needs
@@ -40,10 +42,11 @@ loop-less : tie.Need-loop-less Inv-loop μ-loop
 loop-less c = search needs
 
 loop-again : tie.Need-loop-again Inv-loop μ-loop
-loop-again c = let l = c .before .before .before .loop in (search needs, sym (place-behind _ (l .i) _ (search needs) (c .if1 .left)) ∙ l .inv .1)
+loop-again c =
+    let l = c .before .before .before .loop in (search needs, sym (some-behind (leb (c .before .before .before .before .args .len)) _ (l .i) 0 (search needs) (lt-leb _ _ (c .if1 .left))) ∙ l .inv .1)
 
 returns-2 : tie.Need-returns-2 Inv-loop μ-loop
-returns-2 c = let l = c .before .loop in sym (places-done _ (l .i) _ (search needs)) ∙ l .inv .1
+returns-2 c = let l = c .before .loop in sym (some-done (leb (c .before .before .args .len)) _ (l .i) (search needs)) ∙ l .inv .1
 
 pub some-place-out-spec : {M : Type 1} → statement M
 some-place-out-spec =

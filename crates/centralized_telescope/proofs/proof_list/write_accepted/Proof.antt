@@ -39,7 +39,8 @@ returns-3 c =
     let z = o .args in
     too-short (z .places .now) (z .«data» .now) (z .ends .now) (z .marks .now) (z .indexes .now)
     (z .out-data .now) (z .out-ends .now) (z .out-marks .now) (z .out-indexes .now)
-    (o .pre) (c .before .before .before .before .if1 .left) (sym (c .before .before .before .some-place-out .ensures) ∙ c .before .before .if2 .left) _ (c .before .some-buffer-short .ensures) (c .if3 .taken)
+    (o .pre) (c .before .before .before .before .if1 .left) (sym (c .before .before .before .some-place-out .ensures) ∙ c .before .before .if2 .left) _
+    (c .before .some-buffer-short .ensures) (c .if3 .taken)
 
 write-elements-requires : tie.Need-write-elements-requires
 write-elements-requires c κs =
@@ -76,7 +77,8 @@ returns-4 c =
     let e = c .before .before .before .before .before .before .before .before .write-elements in
     all-written (z .places .now) (z .«data» .now) (z .ends .now) (z .marks .now) (z .indexes .now)
     (z .out-data .now) (z .out-ends .now) (z .out-marks .now) (z .out-indexes .now)
-    (o .pre) (t .before .before .before .before .if1 .left) (sym (t .before .before .before .some-place-out .ensures) ∙ t .before .before .if2 .left) _ (t .before .some-buffer-short .ensures) (t .if3 .left)
+    (o .pre) (t .before .before .before .before .if1 .left) (sym (t .before .before .before .some-place-out .ensures) ∙ t .before .before .if2 .left) _
+    (t .before .some-buffer-short .ensures) (t .if3 .left)
     (wrote (e .result) (e .last .1 .1 .1 .1 .1 .0) (e .last .1 .1 .1 .1 .1 .1 .0) (e .last .1 .1 .1 .1 .1 .1 .1 .0) (e .last .1 .1 .1 .1 .1 .1 .1 .1 .0)) (e .ensures)
 
 pub write-accepted-spec : {M : Type 1} → statement M

@@ -69,7 +69,8 @@ copy-at-requires c κs =
       arith,
       r .data-room,
       l .inv .2,
-      own-fits (z .«data» .now) (z .ends .now) (z .marks .now) (z .indexes .now) (o .pre .0) (z .places .now) (o .pre .2) (l .i) (search needs) _ (c .before .before .data-of .ensures) (l .used) (used-is _ _ _ _ _ _ _ _ _ _ (l .inv .6)),
+      own-fits (z .«data» .now) (z .ends .now) (z .marks .now) (z .indexes .now) (o .pre .0) (z .places .now) (o .pre .2) (l .i) (search needs) _
+          (c .before .before .data-of .ensures) (l .used) (used-is _ _ _ _ _ _ _ _ _ _ (l .inv .6)),
     )
 
 add-used : tie.Need-add-used Inv-loop μ-loop
@@ -82,7 +83,8 @@ add-used c =
       l .inv .1,
       l .inv .0,
       o .pre .1,
-      own-short (z .«data» .now) (z .ends .now) (z .marks .now) (z .indexes .now) (o .pre .0) (z .places .now) (o .pre .2) (l .i) (search needs) _ (c .before .before .before .before .before .data-of .ensures),
+      own-short (z .«data» .now) (z .ends .now) (z .marks .now) (z .indexes .now) (o .pre .0) (z .places .now) (o .pre .2) (l .i) (search needs) _
+          (c .before .before .before .before .before .data-of .ensures),
     )
 
 cast-out-ends : tie.Need-cast-out-ends Inv-loop μ-loop
@@ -95,7 +97,8 @@ cast-out-ends c =
       l .inv .1,
       l .inv .0,
       o .pre .1,
-      own-short (z .«data» .now) (z .ends .now) (z .marks .now) (z .indexes .now) (o .pre .0) (z .places .now) (o .pre .2) (l .i) (search needs) _ (c .before .before .before .before .before .data-of .ensures),
+      own-short (z .«data» .now) (z .ends .now) (z .marks .now) (z .indexes .now) (o .pre .0) (z .places .now) (o .pre .2) (l .i) (search needs) _
+          (c .before .before .before .before .before .data-of .ensures),
     )
 
 mul-out-ends : tie.Need-mul-out-ends Inv-loop μ-loop

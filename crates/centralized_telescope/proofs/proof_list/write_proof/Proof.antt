@@ -1,11 +1,25 @@
 -- `write_proof`: the refusals of the list first.
 use mathlib.Core.Path.{_≡_, sym, ap, _∙_}
+use Prim.Native.Nat.{ℕ}
 use native.Mathlib.Omega.{arith}
 use borrow.Author.Needs.{needs}
 use Rattle.centralized_telescope.specs.Elements.{listNumber}
+use Rattle.centralized_telescope.specs.WrittenOut.{unwritten, proofWritten}
 use Rattle.centralized_telescope.proofs.ProofAnswers.{list-refused}
 use Rattle.centralized_telescope.proofs.proof_list.write_proof.Statement.{statement}
 use Rattle.centralized_telescope.proofs.proof_list.write_proof.Tie as tie
+
+-- a refusal of the list, by its number
+refusal : (s : tie.After-check-list) (k : ℕ) → listNumber (s .check-list .result) ≡ k → (k ≡ 0 → ⊥)
+    → (let z = s .before .before .before .before .before .before .before .before .before .before .args in
+    unwritten k (z .out-data .now) (z .out-ends .now) (z .out-marks .now) (z .out-indexes .now)
+    ≡ proofWritten (z .places .now) (z .«data» .now) (z .ends .now) (z .marks .now) (z .indexes .now)
+    (z .out-data .now) (z .out-ends .now) (z .out-marks .now) (z .out-indexes .now))
+refusal s k e n =
+    let z = s .before .before .before .before .before .before .before .before .before .before .args in
+    list-refused (z .places .now) (z .«data» .now) (z .ends .now) (z .marks .now) (z .indexes .now)
+    (z .out-data .now) (z .out-ends .now) (z .out-marks .now) (z .out-indexes .now)
+    k n _ (s .check-list .ensures) e
 
 check-list-requires : tie.Need-check-list-requires
 check-list-requires c κs = search needs
@@ -23,18 +37,10 @@ write-accepted-requires : tie.Need-write-accepted-requires
 write-accepted-requires c κs = sym (c .before .before .before .before .before .before .check-list .ensures) ∙ ap listNumber (c .before .before .before .before .enum-told3 .given .1)
 
 returns : tie.Need-returns
-returns c =
-    let z = c .before .before .before .before .before .before .before .before .before .before .before .before .args in
-    list-refused (z .places .now) (z .«data» .now) (z .ends .now) (z .marks .now) (z .indexes .now)
-    (z .out-data .now) (z .out-ends .now) (z .out-marks .now) (z .out-indexes .now)
-    4 (λ (e : 4 ≡ 0). omega arith) _ (c .before .before .check-list .ensures) (ap listNumber (c .enum-told .given .1))
+returns c = refusal (c .before .before) 4 (ap listNumber (c .enum-told .given .1)) (λ e. omega arith)
 
 returns-2 : tie.Need-returns-2
-returns-2 c =
-    let z = c .before .before .before .before .before .before .before .before .before .before .before .before .args in
-    list-refused (z .places .now) (z .«data» .now) (z .ends .now) (z .marks .now) (z .indexes .now)
-    (z .out-data .now) (z .out-ends .now) (z .out-marks .now) (z .out-indexes .now)
-    5 (λ (e : 5 ≡ 0). omega arith) _ (c .before .before .check-list .ensures) (ap listNumber (c .enum-told2 .given .1))
+returns-2 c = refusal (c .before .before) 5 (ap listNumber (c .enum-told2 .given .1)) (λ e. omega arith)
 
 same-length : tie.Need-same-length
 same-length c = search needs

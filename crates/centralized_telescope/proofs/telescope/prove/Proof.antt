@@ -1,11 +1,22 @@
 -- `prove`: 1, 2, 3, then what lawful settings give.
-use mathlib.Core.Path.{sym, ap, _∙_}
+use mathlib.Core.Path.{_≡_, sym, ap, _∙_}
+use Prim.Native.Nat.{ℕ}
 use native.Mathlib.Omega.{arith}
 use Rattle.centralized_telescope.specs.Params.{checkedNumber}
+use Rattle.centralized_telescope.specs.ParamsLaws.{number-alone}
+use Rattle.centralized_telescope.specs.Prover.{refused, proved}
 use Rattle.centralized_telescope.proofs.ProveAnswers.{settings-refused}
 use borrow.Author.Needs.{needs}
 use Rattle.centralized_telescope.proofs.telescope.prove.Statement.{statement}
 use Rattle.centralized_telescope.proofs.telescope.prove.Tie as tie
+
+-- a refusal of the settings, by its number
+refusal : (s : tie.After-check-params) (k : ℕ) → checkedNumber (s .check-params .result) ≡ (k, 0) → (k ≡ 0 → ⊥)
+    → (let a = s .before .before .before .before .before .before .before .args in
+    refused k (a .places .now) (a .bins .now) ≡ proved (a .p) (a .«data» .now) (a .ends .now) (a .marks .now) (a .indexes .now) (a .places .now) (a .bins .now))
+refusal s k e n =
+    let a = s .before .before .before .before .before .before .before .args in
+    sym (settings-refused (a .p) (a .«data» .now) (a .ends .now) (a .marks .now) (a .indexes .now) (a .places .now) (a .bins .now) k (number-alone (sym (s .check-params .ensures) ∙ e)) n)
 
 check-params-requires : tie.Need-check-params-requires
 check-params-requires c κs = search needs
@@ -26,19 +37,13 @@ prove-lawful-requires : tie.Need-prove-lawful-requires
 prove-lawful-requires c κs = sym (c .before .before .before .before .before .check-params .ensures) ∙ ap checkedNumber (c .before .before .before .settings .given .1)
 
 returns : tie.Need-returns
-returns c =
-    let a = c .before .before .before .before .before .before .before .before .before .args in
-    sym (settings-refused (a .p) (a .«data» .now) (a .ends .now) (a .marks .now) (a .indexes .now) (a .places .now) (a .bins .now) 1 (sym (c .before .before .check-params .ensures) ∙ ap checkedNumber (c .enum-told .given .1)) (λ z. omega arith))
+returns c = refusal (c .before .before) 1 (ap checkedNumber (c .enum-told .given .1)) (λ z. omega arith)
 
 returns-2 : tie.Need-returns-2
-returns-2 c =
-    let a = c .before .before .before .before .before .before .before .before .before .args in
-    sym (settings-refused (a .p) (a .«data» .now) (a .ends .now) (a .marks .now) (a .indexes .now) (a .places .now) (a .bins .now) 2 (sym (c .before .before .check-params .ensures) ∙ ap checkedNumber (c .enum-told2 .given .1)) (λ z. omega arith))
+returns-2 c = refusal (c .before .before) 2 (ap checkedNumber (c .enum-told2 .given .1)) (λ z. omega arith)
 
 returns-3 : tie.Need-returns-3
-returns-3 c =
-    let a = c .before .before .before .before .before .before .before .before .before .args in
-    sym (settings-refused (a .p) (a .«data» .now) (a .ends .now) (a .marks .now) (a .indexes .now) (a .places .now) (a .bins .now) 3 (sym (c .before .before .check-params .ensures) ∙ ap checkedNumber (c .enum-told3 .given .1)) (λ z. omega arith))
+returns-3 c = refusal (c .before .before) 3 (ap checkedNumber (c .enum-told3 .given .1)) (λ z. omega arith)
 
 same-length : tie.Need-same-length
 same-length c = search needs

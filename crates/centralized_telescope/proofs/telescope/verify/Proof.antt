@@ -1,13 +1,22 @@
 -- `verify`: the settings, the list, then the judgement.
-use mathlib.Core.Path.{sym, ap, _∙_}
+use mathlib.Core.Path.{_≡_, sym, ap, _∙_}
 use Prim.Native.Nat.{ℕ}
 use Rattle.sampling.specs.Sample.{valueOf}
-use Rattle.centralized_telescope.specs.Elements.{listNumber}
-use Rattle.centralized_telescope.specs.Params.{checkedNumber}
+use Rattle.centralized_telescope.specs.Elements.{listCheck, listNumber}
+use Rattle.centralized_telescope.specs.Params.{checked, checkedNumber}
+use Rattle.centralized_telescope.specs.ParamsLaws.{number-alone}
 use Rattle.centralized_telescope.proofs.VerdictAnswers.{settings-number, list-number, threshold-passed, settings-refused, list-refused, left-to-judge}
 use borrow.Author.Needs.{needs}
 use Rattle.centralized_telescope.proofs.telescope.verify.Statement.{statement}
 use Rattle.centralized_telescope.proofs.telescope.verify.Tie as tie
+
+-- the settings pass, with X
+lawful-settings : (s : tie.After-settings) → checked (s .before .before .before .before .before .before .before .args .p) ≡ (0, valueOf (s .settings .given .0 .0))
+lawful-settings s = sym (s .before .before .check-params .ensures) ∙ ap checkedNumber (s .settings .given .1)
+
+-- the list is accepted
+accepted : (s : tie.After-enum-told) → (let a = s .before .before .before .before .before .before .before .before .before .before .before .args in listCheck (a .«data» .now) (a .ends .now) (a .marks .now) (a .indexes .now) ≡ 0)
+accepted s = sym (s .before .before .check-list .ensures) ∙ ap listNumber (s .enum-told .given .1)
 
 check-params-requires : tie.Need-check-params-requires
 check-params-requires c κs = search needs
@@ -39,23 +48,20 @@ returns-2 c =
     let l = c .before .before .check-list in
     let a = c .before .before .before .before .before .before .before .before .before .before .before .args in
     list-refused (a .p) (a .retry-counter .0) (a .search-counter .0) (a .«data» .now) (a .ends .now) (a .marks .now) (a .indexes .now)
-    (ap (λ (k : ℕ × ℕ). k .0) (sym (c .before .before .before .before .before .before .check-params .ensures) ∙ ap checkedNumber (c .before .before .before .before .settings .given .1))) _ (c .list-verdict .ensures ∙ l .ensures)
+    (number-alone (lawful-settings (c .before .before .before .before))) _ (c .list-verdict .ensures ∙ l .ensures)
     (λ e. list-number (l .result) (c .before .match2 .keys2) (sym (c .list-verdict .ensures) ∙ e))
 
 judge-requires : tie.Need-judge-requires
 judge-requires c κs =
-    let a = c .before .before .before .before .before .before .before .before .before .before .before .args in (
-      threshold-passed (a .p) (valueOf (c .before .before .before .before .settings .given .0 .0)) (sym (c .before .before .before .before .before .before .check-params .ensures) ∙ ap checkedNumber (c .before .before .before .before .settings .given .1)),
-      sym (c .before .before .check-list .ensures) ∙ ap listNumber (c .enum-told .given .1),
-    )
+    let s = c .before .before .before .before in
+    (threshold-passed (c .before .before .before .before .before .before .before .before .before .before .before .args .p) (valueOf (s .settings .given .0 .0)) (lawful-settings s), accepted c)
 
 returns-3 : tie.Need-returns-3
 returns-3 c =
     let a = c .before .before .before .before .before .before .before .before .before .before .before .before .args in
     c .judge .ensures
     ∙ left-to-judge (a .p) (a .retry-counter .0) (a .search-counter .0) (a .«data» .now) (a .ends .now) (a .marks .now) (a .indexes .now)
-    (ap (λ (k : ℕ × ℕ). k .0) (sym (c .before .before .before .before .before .before .before .check-params .ensures) ∙ ap checkedNumber (c .before .before .before .before .before .settings .given .1)))
-    (sym (c .before .before .before .check-list .ensures) ∙ ap listNumber (c .before .enum-told .given .1))
+    (number-alone (lawful-settings (c .before .before .before .before .before))) (accepted (c .before))
 
 pub verify-spec : {M : Type 1} → statement M
 verify-spec =

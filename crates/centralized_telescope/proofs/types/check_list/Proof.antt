@@ -21,7 +21,8 @@ returns : tie.Need-returns
 returns c =
     let a = c .before .before .before .before .before .before .before .before .args in
     c .list-answer .ensures
-    ∙ found (a .«data» .now) (a .ends .now) (a .marks .now) (a .indexes .now) _ _ _ _ _ refl refl (c .before .before .before .some-mark-over .ensures) (c .before .before .some-end-wrong .ensures) (c .before .some-data-long .ensures)
+    ∙ found (a .«data» .now) (a .ends .now) (a .marks .now) (a .indexes .now) _ _ _ _ _ refl refl (c .before .before .before .some-mark-over .ensures)
+    (c .before .before .some-end-wrong .ensures) (c .before .some-data-long .ensures)
 
 pub check-list-spec : {M : Type 1} → statement M
 check-list-spec =

@@ -1,0 +1,53 @@
+-- Laws of tests and of the order of numbers, which the laws of this crate's definitions and its proofs share.
+use mathlib.Core.Path.{_≡_, refl, sym, _∙_, subst}
+use mathlib.Core.Bool.{Bool, true, false, false≢true, cond, _||_, _&&_}
+use mathlib.Core.Logic.{_⊎_, inl, inr, ⊎-elim}
+use Prim.Native.Nat.{ℕ, zero, suc, _+_, _≤_, _<_}
+use native.Mathlib.Nat.{eq-or-lt-of-le}
+use native.Mathlib.Numerals.{add-one}
+use native.Mathlib.Omega.{arith}
+use borrow.Author.Tests.{eqb-true, eqb-false, ltb-true, ltb-false}
+use lib.Dec.{eqb, ltb}
+
+-- ---- tests joined, and a choice that makes no difference
+
+pub not-both : {b : Bool} → b ≡ true → b ≡ false → ⊥
+not-both t f = false≢true (sym f ∙ t)
+
+pub neither : (a : Bool) {b : Bool} → a || b ≡ false → (a ≡ false) × (b ≡ false)
+neither true e = absurd (not-both refl e)
+neither false e = (refl, e)
+
+pub both : (a : Bool) {b : Bool} → a && b ≡ true → (a ≡ true) × (b ≡ true)
+both true e = (refl, e)
+both false e = absurd (not-both e refl)
+
+pub either-way : {A : Type 0} (t : Bool) (x : A) → cond t x x ≡ x
+either-way true x = refl
+either-way false x = refl
+
+-- ---- two numbers
+
+is-or-not : (a b : ℕ) → (a ≡ b) ⊎ (a ≡ b → ⊥)
+is-or-not a b = go (eqb a b) refl
+  where
+    go : (t : Bool) → eqb a b ≡ t → (a ≡ b) ⊎ (a ≡ b → ⊥)
+    go true e = inl (eqb-true a b e)
+    go false e = inr (eqb-false a b e)
+
+-- what holds of y and of all others holds of each
+pub for-each : (P : ℕ → Type 0) (y : ℕ) → P y → ((i : ℕ) → (i ≡ y → ⊥) → P i) → (i : ℕ) → P i
+for-each P y here other i = ⊎-elim (λ e. subst P (sym e) here) (other i) (is-or-not i y)
+
+pub lt-or-le : (a b : ℕ) → (a < b) ⊎ (b ≤ a)
+lt-or-le a b = go (ltb a b) refl
+  where
+    go : (t : Bool) → ltb a b ≡ t → (a < b) ⊎ (b ≤ a)
+    go true e = inl (ltb-true a b e)
+    go false e = inr (ltb-false a b e)
+
+-- what never falls from a number to the next never falls
+pub ascends : (f : ℕ → ℕ) → ((i : ℕ) → f i ≤ f (i + 1)) → (i j : ℕ) → i ≤ j → f i ≤ f j
+ascends f step i zero l = let e : i ≡ 0 = omega arith in rw e (omega arith)
+ascends f step i (suc j) l =
+    ⊎-elim (λ e. rw e (omega arith)) (λ k. omega (arith, ascends f step i j (omega arith), rw (add-one j) at (step j))) (eq-or-lt-of-le l)

@@ -1,0 +1,48 @@
+// Makes a proof from a file of elements, writes it to a file and verifies it.
+//
+//     prove_and_verify ELEMENTS PROOF SET_SIZE U C
+//     prove_and_verify ELEMENTS PROOF SET_SIZE PROOF_SIZE MAX_RETRIES SEARCH_WIDTH DFS_BOUND Q
+//
+// The first takes the small case's settings for proofs of U elements and completeness C, the second each setting by itself. ELEMENTS has an
+// element to a line: its data in hexadecimal, `-` where it is empty, and perhaps a space and its index in decimal. PROOF is written once a
+// proof is found: a line `proof R S`, then its elements, in the same form. C is a whole number, or 0x and the 16 hexadecimal digits of a
+// double's bits; Q is such 16 digits. There is room for 65,536 elements of 1,048,576 data bytes in all, and for 524,288 data bytes in a
+// proof: with the deepest search, that is what fits the system's ordinary stack of 8 MB.
+mod args;
+mod elements_file;
+mod proof_file;
+mod report;
+mod search;
+mod settings;
+
+use text::say::say;
+
+fn say_usage() {
+    say(b"usage: prove_and_verify ELEMENTS PROOF SET_SIZE U C\n");
+    say(
+        b"       prove_and_verify ELEMENTS PROOF SET_SIZE PROOF_SIZE MAX_RETRIES SEARCH_WIDTH DFS_BOUND Q\n",
+    );
+    say(
+        b"ELEMENTS  a file of elements, one to a line: data in hexadecimal, or -, and perhaps a space and the index\n",
+    );
+    say(b"PROOF     the file that the proof is written to, once one is found\n");
+    say(
+        b"U, C      proof size and completeness of the small case; C a whole number, or 0x and 16 hexadecimal digits of a double\n",
+    );
+    say(b"Q         16 hexadecimal digits of a double\n");
+}
+
+fn main() {
+    let mut elements = io::buffer();
+    let mut proof = io::buffer();
+    let asked = settings::by_arguments(os::arg_count());
+    match asked {
+        settings::Asked::Usage => say_usage(),
+        settings::Asked::Refused => {}
+        settings::Asked::Settings(p) => {
+            let n = args::path(1, &mut elements);
+            let m = args::path(2, &mut proof);
+            search::run(p, &elements[..n], &proof[..m]);
+        }
+    }
+}

@@ -1,0 +1,185 @@
+// A proof written out as a list, into its file, and verified.
+ghost use mathlib.Core.Path.{_≡_};
+ghost use lib.ListN.{length};
+use crate::report::say_of_file;
+use crate::report::say_outcome;
+use crate::report::say_refused;
+use centralized_telescope::Params;
+use centralized_telescope::RetryCounter;
+use centralized_telescope::SearchCounter;
+use centralized_telescope::Verdict;
+use centralized_telescope::Written;
+use text::elements;
+use text::least;
+use text::say::say;
+
+// R and S of a proof.
+pub struct Counters {
+    pub retry: RetryCounter,
+    pub search: SearchCounter,
+}
+
+// Room for the data of a proof's elements: for 1,024 of them, 512 bytes each.
+fn data_room() -> [u8; 524288]
+    ensures { λ r. ⌜ 524288 ≡ length r ⌝ }
+{
+    [0; 524288]
+}
+
+// The first n, or all where there are fewer.
+fn first_bytes(xs: &[u8], n: usize) -> &[u8] {
+    let end = least(n, xs.len());
+    &xs[0..end]
+}
+
+pub fn first_numbers(xs: &[u32], n: usize) -> &[u32] {
+    let end = least(n, xs.len());
+    &xs[0..end]
+}
+
+fn first_indexes(xs: &[u64], n: usize) -> &[u64] {
+    let end = least(n, xs.len());
+    &xs[0..end]
+}
+
+// The line `proof R S`.
+fn write_counters(fd: i32, counters: Counters) -> bool {
+    let retry = counters.retry;
+    let search = counters.search;
+    if !io::write_all(fd, b"proof ") {
+        return false;
+    }
+    if !io::print_decimal(fd, retry.0) {
+        return false;
+    }
+    if !io::write_all(fd, b" ") {
+        return false;
+    }
+    if !io::print_decimal(fd, search.0) {
+        return false;
+    }
+    io::write_all(fd, b"\n")
+}
+
+fn write_elements(fd: i32, data: &[u8], ends: &[u32], marks: &[u8], indexes: &[u64]) -> bool {
+    let mut i = 0;
+    while i < ends.len() {
+        if !elements::write_line(fd, data, ends, marks, indexes, i) {
+            return false;
+        }
+        i += 1;
+    }
+    true
+}
+
+// Whether the file could be written whole.
+fn is_written(
+    name: &[u8],
+    counters: Counters,
+    data: &[u8],
+    ends: &[u32],
+    marks: &[u8],
+    indexes: &[u64],
+) -> bool {
+    let fd = os::open_overwrite(name);
+    if fd < 0 {
+        return false;
+    }
+    let is_whole = write_counters(fd, counters) && write_elements(fd, data, ends, marks, indexes);
+    let is_closed = libc::close(fd) == 0;
+    is_whole && is_closed
+}
+
+fn say_dark(number: u64) {
+    say_outcome(b"dark", number);
+}
+
+fn say_verdict(verdict: Verdict) {
+    match verdict {
+        Verdict::Accepted => say(b"green\n"),
+        Verdict::SetSizeRefused => say_dark(1),
+        Verdict::LimitRefused => say_dark(2),
+        Verdict::ProbabilityRefused => say_dark(3),
+        Verdict::Malformed => say_dark(4),
+        Verdict::TooLarge => say_dark(5),
+        Verdict::IncorrectNumberElements => say_dark(20),
+        Verdict::InvalidParameters => say_dark(21),
+        Verdict::InvalidProof => say_dark(22),
+    }
+}
+
+// The list of a proof's elements into its file, and what the verifier says of it.
+fn finish(
+    p: Params,
+    name: &[u8],
+    counters: Counters,
+    data: &[u8],
+    ends: &[u32],
+    marks: &[u8],
+    indexes: &[u64],
+) {
+    if !is_written(name, counters, data, ends, marks, indexes) {
+        say_of_file(name, b"can't be written");
+        return;
+    }
+    say_of_file(name, b"the proof is written");
+    say_verdict(centralized_telescope::verify(
+        p,
+        counters.retry,
+        counters.search,
+        data,
+        ends,
+        marks,
+        indexes,
+    ));
+}
+
+fn say_not_written(written: Written) {
+    match written {
+        Written::List(_) => {}
+        Written::Malformed => say_refused(4),
+        Written::TooLarge => say_refused(5),
+        Written::TooShort => say_refused(42),
+    }
+}
+
+// The elements at the places, as the proof's own list: written and verified.
+pub fn write_and_verify(
+    p: Params,
+    name: &[u8],
+    counters: Counters,
+    places: &[u32],
+    data: &[u8],
+    ends: &[u32],
+    marks: &[u8],
+    indexes: &[u64],
+) {
+    let mut own_data = data_room();
+    let mut own_ends = [0u32; 1024];
+    let mut own_marks = [0u8; 1024];
+    let mut own_indexes = [0u64; 1024];
+    let written = centralized_telescope::write_proof(
+        places,
+        data,
+        ends,
+        marks,
+        indexes,
+        &mut own_data,
+        &mut own_ends,
+        &mut own_marks,
+        &mut own_indexes,
+    );
+    let Written::List(bytes) = written else {
+        say_not_written(written);
+        return;
+    };
+    finish(
+        p,
+        name,
+        counters,
+        first_bytes(&own_data, bytes),
+        first_numbers(&own_ends, places.len()),
+        first_bytes(&own_marks, places.len()),
+        first_indexes(&own_indexes, places.len()),
+    );
+}

@@ -1,0 +1,116 @@
+// The search for a proof, and what came of it.
+ghost use mathlib.Core.Path.{_≡_};
+ghost use lib.ListN.{length};
+use crate::elements_file;
+use crate::proof_file;
+use crate::proof_file::Counters;
+use crate::report::say_figure;
+use crate::report::say_of_file;
+use crate::report::say_outcome;
+use crate::report::say_refused;
+use crate::settings;
+use centralized_telescope::Params;
+use centralized_telescope::ProofSearch;
+use text::say::say;
+
+// Room for the bin table of the largest set size.
+fn bins_room() -> [u32; 98305]
+    ensures { λ r. ⌜ 98305 ≡ length r ⌝ }
+{
+    [0; 98305]
+}
+
+// How many of n elements the search keeps: the first 2 * set_size.
+fn kept(n: usize, set_size: u64) -> u64 {
+    let all = n as u64;
+    if all / 2 < set_size {
+        return all;
+    }
+    2 * set_size
+}
+
+fn say_place(place: u32) {
+    say_figure(b" ", place as u64);
+}
+
+fn say_places(places: &[u32]) {
+    let mut i = 0;
+    while i < places.len() {
+        say_place(places[i]);
+        i += 1;
+    }
+}
+
+fn say_found(counters: Counters, count: u64, places: &[u32]) {
+    let retry = counters.retry;
+    let search = counters.search;
+    say_figure(b"found: R ", retry.0);
+    say_figure(b", S ", search.0);
+    say_figure(b", steps ", count);
+    say(b"\nplaces:");
+    say_places(places);
+    say(b"\n");
+}
+
+fn say_not_found(number: u64, count: u64) {
+    say_figure(b"not found, steps ", count);
+    say_outcome(b"", number);
+}
+
+fn search(p: Params, proof: &[u8], data: &[u8], ends: &[u32], marks: &[u8], indexes: &[u64]) {
+    let mut places = [0u32; 1024];
+    let mut bins = bins_room();
+    let found = centralized_telescope::prove(p, data, ends, marks, indexes, &mut places, &mut bins);
+    match found {
+        ProofSearch::Found(retry, search, count) => {
+            let counters = Counters { retry, search };
+            let chain = proof_file::first_numbers(&places, p.proof_size as usize);
+            say_found(counters, count, chain);
+            proof_file::write_and_verify(p, proof, counters, chain, data, ends, marks, indexes);
+        }
+        ProofSearch::NotFoundInBounds(count) => say_not_found(11, count),
+        ProofSearch::NotFound(count) => say_not_found(12, count),
+        ProofSearch::SetSizeRefused => say_refused(1),
+        ProofSearch::LimitRefused => say_refused(2),
+        ProofSearch::ProbabilityRefused => say_refused(3),
+        ProofSearch::Malformed => say_refused(4),
+        ProofSearch::TooLarge => say_refused(5),
+        ProofSearch::WorkspaceShort => say_refused(6),
+        ProofSearch::NotEnoughElements => say_refused(10),
+    }
+}
+
+fn say_task(p: Params, elements: &[u8], n: usize) {
+    settings::say_settings(p);
+    say(elements);
+    say_figure(b": elements read ", n as u64);
+    say_figure(b", kept for the search ", kept(n, p.set_size));
+    say(b"\n");
+}
+
+// Reads the file of elements, searches, and writes the proof's file.
+pub fn run(p: Params, elements: &[u8], proof: &[u8]) {
+    if check::same(elements, proof) {
+        say_of_file(proof, b"the proof would be written over the elements");
+        return;
+    }
+    let mut data = elements_file::data_room();
+    let mut ends = elements_file::ends_room();
+    let mut marks = elements_file::marks_room();
+    let mut indexes = elements_file::indexes_room();
+    let list = elements_file::read(elements, &mut data, &mut ends, &mut marks, &mut indexes);
+    if !list.whole {
+        return;
+    }
+    let n = list.elements;
+    let bytes = list.bytes;
+    say_task(p, elements, n);
+    search(
+        p,
+        proof,
+        &data[0..bytes],
+        &ends[0..n],
+        &marks[0..n],
+        &indexes[0..n],
+    );
+}

@@ -1,0 +1,4 @@
+-- The laws that the proofs of `text` share.
+mod DecimalLaws
+mod DigitLaws
+mod NanPatterns

@@ -1,0 +1,212 @@
+// The questions that ask of the list of elements above them.
+ghost use Prim.Native.Nat.{_≤_};
+ghost use lib.ListN.{length};
+use crate::ask;
+use crate::said;
+use crate::said::Said;
+use centralized_telescope::Distinctness;
+use centralized_telescope::Params;
+use centralized_telescope::ProofSearch;
+use centralized_telescope::RetryCounter;
+use centralized_telescope::SearchCounter;
+use centralized_telescope::Verdict;
+use text::words;
+
+// Stands in each place before a search: no list has so many elements.
+const MARK: u32 = 0xffff_ffff;
+
+// Settings, where a question writes them after its first word.
+struct KnownSettings {
+    known: bool,
+    params: Params,
+}
+
+// distinct
+pub fn distinct(
+    question: &[u8],
+    data: &[u8],
+    ends: &[u32],
+    marks: &[u8],
+    indexes: &[u64],
+    out: &mut [u8],
+) -> Said
+    ensures { λ r. ⌜ r .len ≤ length (now (out .exit)) ⌝ }
+{
+    if words::count(question) != 1 {
+        return said::nothing();
+    }
+    let answer = centralized_telescope::check_distinct(data, ends, marks, indexes);
+    match answer {
+        Distinctness::Distinct => said::one(out, 1),
+        Distinctness::Repeated => said::one(out, 0),
+        Distinctness::Malformed => said::one(out, 4),
+        Distinctness::TooLarge => said::one(out, 5),
+    }
+}
+
+// SET_SIZE PROOF_SIZE MAX_RETRIES SEARCH_WIDTH DFS_BOUND Q
+fn read_settings(question: &[u8]) -> KnownSettings {
+    let set_size = ask::read_number(question, 1);
+    let proof_size = ask::read_number(question, 2);
+    let max_retries = ask::read_number(question, 3);
+    let search_width = ask::read_number(question, 4);
+    let dfs_bound = ask::read_number(question, 5);
+    let q = ask::read_double(question, 6);
+    let sizes_known = set_size.known && proof_size.known && max_retries.known;
+    KnownSettings {
+        known: sizes_known && search_width.known && dfs_bound.known && q.known,
+        params: Params {
+            set_size: set_size.value,
+            proof_size: proof_size.value,
+            max_retries: max_retries.value,
+            search_width: search_width.value,
+            dfs_bound: dfs_bound.value,
+            q: q.value,
+        },
+    }
+}
+
+// Whether each of these places is as it was before the search.
+fn are_untouched(places: &[u32]) -> bool {
+    let mut i = 0;
+    while i < places.len() {
+        if places[i] != MARK {
+            return false;
+        }
+        i += 1;
+    }
+    true
+}
+
+// An answer up to `at`, with the proof's places and, where a place past them was written, a word that no stored answer has.
+fn with_places(places: &[u32], found: usize, at: usize, out: &mut [u8]) -> Said
+    ensures { λ r. ⌜ r .len ≤ length (now (out .exit)) ⌝ }
+{
+    let n = text::least(found, places.len());
+    let end = said::put_places(out, at, &places[..n]);
+    if are_untouched(&places[n..]) {
+        return said::whole(end);
+    }
+    said::whole(said::put_word(out, end, b"more-places-written"))
+}
+
+// The number that an answer of the prover has.
+fn search_number(answer: ProofSearch) -> u64 {
+    match answer {
+        ProofSearch::Found(_, _, _) => 0,
+        ProofSearch::SetSizeRefused => 1,
+        ProofSearch::LimitRefused => 2,
+        ProofSearch::ProbabilityRefused => 3,
+        ProofSearch::Malformed => 4,
+        ProofSearch::TooLarge => 5,
+        ProofSearch::WorkspaceShort => 6,
+        ProofSearch::NotEnoughElements => 10,
+        ProofSearch::NotFoundInBounds(_) => 11,
+        ProofSearch::NotFound(_) => 12,
+    }
+}
+
+// The answer's numbers that stand before its places: where they end.
+fn put_search(answer: ProofSearch, out: &mut [u8]) -> usize
+    ensures { λ r. ⌜ r ≤ length (now (out .exit)) ⌝ }
+{
+    let at = said::put_number(out, 0, search_number(answer));
+    match answer {
+        ProofSearch::Found(retry_counter, search_counter, count) => {
+            let retry = said::put_number(out, at, retry_counter.0);
+            let search = said::put_number(out, retry, search_counter.0);
+            said::put_number(out, search, count)
+        }
+        ProofSearch::NotFoundInBounds(count) => said::put_number(out, at, count),
+        ProofSearch::NotFound(count) => said::put_number(out, at, count),
+        _ => at,
+    }
+}
+
+// How many places a search writes.
+fn places_of(answer: ProofSearch, proof_size: usize) -> usize {
+    if let ProofSearch::Found(_, _, _) = answer {
+        proof_size
+    } else {
+        0
+    }
+}
+
+// prove SETTINGS. The workspace suffices for a set_size of 1,000, and has more places than any proof.
+pub fn prove(
+    question: &[u8],
+    data: &[u8],
+    ends: &[u32],
+    marks: &[u8],
+    indexes: &[u64],
+    out: &mut [u8],
+) -> Said
+    ensures { λ r. ⌜ r .len ≤ length (now (out .exit)) ⌝ }
+{
+    let p = read_settings(question);
+    if !p.known || words::count(question) != 7 {
+        return said::nothing();
+    }
+    let mut places = [MARK; 1040];
+    let mut bins = [0u32; 3001];
+    let params = p.params;
+    let answer = centralized_telescope::prove(
+        params,
+        data,
+        ends,
+        marks,
+        indexes,
+        &mut places,
+        &mut bins,
+    );
+    let at = put_search(answer, out);
+    with_places(
+        &places,
+        places_of(answer, params.proof_size as usize),
+        at,
+        out,
+    )
+}
+
+fn verdict_number(verdict: Verdict) -> u64 {
+    match verdict {
+        Verdict::Accepted => 0,
+        Verdict::SetSizeRefused => 1,
+        Verdict::LimitRefused => 2,
+        Verdict::ProbabilityRefused => 3,
+        Verdict::Malformed => 4,
+        Verdict::TooLarge => 5,
+        Verdict::IncorrectNumberElements => 20,
+        Verdict::InvalidParameters => 21,
+        Verdict::InvalidProof => 22,
+    }
+}
+
+// verify SETTINGS R S
+pub fn verify(
+    question: &[u8],
+    data: &[u8],
+    ends: &[u32],
+    marks: &[u8],
+    indexes: &[u64],
+    out: &mut [u8],
+) -> Said
+    ensures { λ r. ⌜ r .len ≤ length (now (out .exit)) ⌝ }
+{
+    let p = read_settings(question);
+    let retry = ask::read_number(question, 7);
+    let search = ask::read_number(question, 8);
+    if !p.known || !retry.known || !search.known || words::count(question) != 9 {
+        return said::nothing();
+    }
+    let verdict = centralized_telescope::verify(
+        p.params,
+        RetryCounter(retry.value),
+        SearchCounter(search.value),
+        data,
+        ends,
+        marks,
+        indexes,
+    );
+    said::one(out, verdict_number(verdict))
+}

@@ -1,0 +1,189 @@
+//! The turns of the run: what each kind compares.
+
+use super::draws::{self, up_to};
+use crate::compare::blocks::Block;
+use crate::compare::rules::{BYTES, ELEMENTS, MOST};
+use crate::compare::{
+    bernoulli, distinct, faults, hash, prover_refusals, refusals, searches, small_case, uniform, verdicts, verifier_refusals,
+};
+use crate::compare::{Answered, Checked};
+use crate::{ffi, ffi::Settings, rng::Rng};
+use std::sync::{Mutex, PoisonError};
+
+type Turn = fn(&mut Block) -> Checked;
+
+/// Each with its name and how often it comes in its turn: so often that most turns take some hundredths or tenths of a second.
+const TURNS: [(&str, u64, Turn); 8] = [
+    ("samplers", 20_000, samplers),
+    ("hash", 4000, hashes),
+    ("small case", 10_000, small_cases),
+    ("distinctness", 4, distinctness),
+    ("searches", 4, search),
+    ("bad input to prove", 8, bad_to_prove),
+    ("random proofs", 32, random_proof),
+    ("bad input to verify", 8, bad_to_verify),
+];
+/// Once in so many turns the fullest lists come instead: they take seconds.
+const FULL_EACH: u64 = 1024;
+/// The first of them; a short run comes to it too.
+const FIRST_FULL: u64 = 8;
+/// How many copies with faults are made of a list.
+const COPIES: u64 = 8;
+
+fn of(number: u64) -> (&'static str, u64, Turn) {
+    match number % FULL_EACH {
+        FIRST_FULL => ("full lists and strings", 1, full),
+        _ => TURNS[(number % TURNS.len() as u64) as usize],
+    }
+}
+
+pub fn name(number: u64) -> &'static str {
+    of(number).0
+}
+
+pub fn run(number: u64, block: &mut Block) -> Checked {
+    let (_, times, turn) = of(number);
+    (0..times).try_for_each(|_| turn(block))
+}
+
+/// Counts the answer to a call.
+fn note(block: &mut Block, call: &'static str, answer: Answered) -> Checked {
+    block.tally.count(call, answer?);
+    Ok(())
+}
+
+/// The right length mostly, else any from 0 to 40, or a null pointer.
+fn any_length(rng: &mut Rng, right: usize) -> Option<usize> {
+    match rng.below(64) {
+        0 => None,
+        1..=15 => Some(rng.below(*refusals::LENGTHS.end() as u64 + 1) as usize),
+        _ => Some(right),
+    }
+}
+
+fn samplers(block: &mut Block) -> Checked {
+    let rng = &mut block.rng;
+    let n = if rng.below(32) == 0 { 0 } else { uniform::any_n(rng) };
+    let (h_len, out_len) = (any_length(rng, 16), any_length(rng, 8));
+    let answer = refusals::uniform_of(rng, h_len, n, out_len);
+    note(block, "uniform", answer)?;
+    let rng = &mut block.rng;
+    let q = if rng.below(8) == 0 { f64::from_bits(rng.word()) } else { bernoulli::any_q(rng) };
+    let h_len = any_length(rng, 16);
+    let answer = refusals::bernoulli_of(rng, h_len, q);
+    note(block, "Bernoulli", answer)
+}
+
+fn hashes(block: &mut Block) -> Checked {
+    let answer = match any_length(&mut block.rng, 32).unwrap_or(0) {
+        32 => hash::check_any(&mut block.rng),
+        out_len => hash::expect(&mut block.rng, [Some(b"Telescope"); 4], out_len, ffi::BAD_LENGTH, &[]),
+    };
+    note(block, "hash", answer)
+}
+
+fn small_cases(block: &mut Block) -> Checked {
+    let rng = &mut block.rng;
+    let u = if rng.below(8) == 0 { up_to(rng, u64::MAX - 1) } else { 1 + rng.below(1025) };
+    let length = if rng.below(16) == 0 { rng.below(10) as usize } else { small_case::FIGURES };
+    let c = small_case::any_c(rng);
+    let answer = small_case::check(rng, u, c, length);
+    note(block, "small case", answer)
+}
+
+/// Lists of one kind with and without a repeat, and lists as a search takes them, whole and with faults.
+fn distinctness(block: &mut Block) -> Checked {
+    let (kind, count) = (block.rng.below(distinct::KINDS), up_to(&mut block.rng, 4096));
+    let mut lists = distinct::with_repeat(&mut block.rng, kind, count as usize);
+    let len = up_to(&mut block.rng, ELEMENTS as u64);
+    lists.push(draws::any_list(&mut block.rng, len as usize));
+    for mut list in lists {
+        note(block, "distinctness", distinct::check(&list))?;
+        for _ in 0..2 {
+            faults::in_list(&mut block.rng, &mut list);
+            note(block, "distinctness", distinct::check(&list))?;
+        }
+    }
+    Ok(())
+}
+
+/// One list with three bounds: the one drawn as far as the work admits it, one at or near which the outcome may turn, and one of any
+/// size. Where no try came to its bound, the tries go the same way under every greater one, so that is no more work.
+fn search(block: &mut Block) -> Checked {
+    let work = 1 << (8 + block.rng.below(12));
+    let mut s = draws::any_settings(&mut block.rng);
+    let list = draws::enough_elements(&mut block.rng, s.set_size);
+    let most = draws::keep_within(&mut block.rng, &mut s, &list, work);
+    let outcome = searches::check_and_verify(block, &s, &list)?;
+    if outcome.count < s.dfs_bound {
+        let dfs_bound = up_to(&mut block.rng, MOST.dfs_bound).max(s.dfs_bound);
+        searches::check(block, &Settings { dfs_bound, ..s }, &list)?;
+    }
+    s.dfs_bound = searches::next_bound(&mut block.rng, &s, &outcome).min(most);
+    searches::check_and_verify(block, &s, &list).map(|_| ())
+}
+
+/// Up to three faults in settings, list and workspace, each time of the same search; and that search with too few elements.
+fn bad_to_prove(block: &mut Block) -> Checked {
+    let mut settings = draws::any_settings(&mut block.rng);
+    let list = match block.rng.below(4) {
+        0 => {
+            let len = up_to(&mut block.rng, settings.set_size - 1);
+            draws::any_list(&mut block.rng, len as usize)
+        }
+        _ => draws::enough_elements(&mut block.rng, settings.set_size),
+    };
+    draws::keep_within(&mut block.rng, &mut settings, &list, 1 << 12);
+    let given = prover_refusals::enough(settings, list);
+    prover_refusals::check(block, &given)?;
+    (0..COPIES).try_for_each(|_| prover_refusals::check_with_faults(block, given.clone()))
+}
+
+fn random_proof(block: &mut Block) -> Checked {
+    let claim = draws::any_claim(&mut block.rng);
+    verdicts::check(block, &claim)
+}
+
+/// Up to three faults, in turn in a proof that was found and in random elements.
+fn bad_to_verify(block: &mut Block) -> Checked {
+    for claim in [verifier_refusals::any_proof(&mut block.rng), draws::any_claim(&mut block.rng)] {
+        (0..COPIES).try_for_each(|_| verifier_refusals::check_with_faults(block, &claim))?;
+    }
+    Ok(())
+}
+
+/// One at a time: each holds some hundred megabytes.
+static FULL: Mutex<()> = Mutex::new(());
+
+/// The most elements that are admitted, each with the most data bytes, whole and with faults; and strings as long as a hash takes them
+/// together, and one byte longer.
+fn full(block: &mut Block) -> Checked {
+    let _alone = FULL.lock().unwrap_or_else(PoisonError::into_inner);
+    full_strings(block)?;
+    let list = searches::list_of(&mut block.rng, ELEMENTS, BYTES, BYTES);
+    note(block, "distinctness", distinct::check(&list))?;
+    let settings = Settings { set_size: MOST.set_size, max_retries: 1, dfs_bound: 1000, ..draws::any_settings(&mut block.rng) };
+    let given = prover_refusals::enough(settings, list);
+    prover_refusals::check(block, &given)?;
+    prover_refusals::check_with_faults(block, given.clone())?;
+    let claim = verdicts::Claim { list: given.list, ..draws::any_claim(&mut block.rng) };
+    verdicts::check(block, &claim)?;
+    verifier_refusals::check_with_faults(block, &claim)
+}
+
+fn full_strings(block: &mut Block) -> Checked {
+    let mut quarter = vec![0; ffi::LONGEST / 4 + 1];
+    block.rng.fill(&mut quarter);
+    let before = quarter.clone();
+    let (over, whole) = (Some(&quarter[..]), Some(&quarter[1..]));
+    let answer = hash::check(&mut block.rng, [whole; 4]);
+    note(block, "hash", answer)?;
+    let mut strings = [whole; 4];
+    strings[block.rng.below(4) as usize] = over;
+    let answer = hash::expect(&mut block.rng, strings, 32, ffi::TOO_LONG, &[0; 32]);
+    note(block, "hash", answer)?;
+    if quarter != before {
+        return Err("  strings of 2^29 bytes and more, which the seed gives: they are ALTERED\n".to_string());
+    }
+    Ok(())
+}
