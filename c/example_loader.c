@@ -127,7 +127,7 @@ static const char *take_element(struct text line, struct proof *p) {
     if (p->marks[i] && !take_number(&line, &index))
         return "no index of 64 bits behind the space";
     if (!is_at_end(&line))
-        return "something behind the element";
+        return "something behind the element, or over 4097 data bytes";
     put(p->ends + 4 * i, 4, p->data_len);
     put(p->indexes + 8 * i, 8, index);
     p->elements++;
@@ -159,7 +159,7 @@ static int read_proof(const char *name, struct proof *p) {
     if (wrong != NULL)
         return unread(name, number, wrong);
     if (length == -2)
-        return unread(name, number + 1, "too long for an element");
+        return unread(name, number + 1, "too long a line");
     if (length == -3)
         return unread(name, 0, "can't be read");
     return number == 0 ? unread(name, 0, "empty") : 0;

@@ -1,12 +1,12 @@
 -- With set_size 1 every draw is 0: all kept places are in the one bin and every round exists, so that the existing chains of a try are
 -- counted without a hash. With q 0 none of them passes, so that all tries are made.
 use mathlib.Core.Path.{_≡_, refl, ap, _∙_}
-use mathlib.Core.Bool.{Bool, true, false, cond}
+use mathlib.Core.Bool.{Bool, false, cond}
 use mathlib.Core.List.{List, [], _∷_, _++_}
 use mathlib.Core.Option.{none, some}
 use Prim.Native.Nat.{ℕ, zero, suc, _+_, _*_, min}
 use native.Mathlib.Omega.{arith}
-use borrow.Author.Tests.{lt-leb, le-ltb}
+use borrow.Author.Tests.{le-ltb}
 use lib.Dec.{eqb, leb, ltb}
 use lib.IntN.{pos}
 use lib.Ieee.{fin, isNan, lt}
@@ -22,7 +22,7 @@ use Rattle.centralized_telescope.specs.Rounds.{proofLabel, startHash, sa
 use Rattle.centralized_telescope.specs.RoundsLaws.{drawnBelow-one, binOf-one, yes-below}
 use Rattle.centralized_telescope.specs.Bins.{placesFrom}
 use Rattle.centralized_telescope.specs.Chains.{Try, tryOf, Chain}
-use Rattle.centralized_telescope.specs.Search.{binList, placesIn, nextAt, idOf, grown, along, chains, chainsAt, chainsFrom, existing, passing, tryCount, tryFinds, unlessFound, triesFrom, searched}
+use Rattle.centralized_telescope.specs.Search.{binList, placesIn, nextAt, idOf, grown, along, chains, chainsAt, chainsFrom, existing, passing, tryCount, tryFinds, unlessFound, triesFrom}
 
 -- 1 + m + m^2 + .. + m^k: the chains of at most k places, all of them out of m
 unfoldable pub treeSize : ℕ → ℕ → ℕ
@@ -41,16 +41,6 @@ module _ {A : Type 0} (test : A → Bool) (never : (x : A) → test x ≡ false)
   unfolding upToFirst
   all-counted [] = refl
   all-counted (x ∷ xs) = rw (never x) (omega (arith, all-counted xs))
-
--- no first is within a bound of 0
-none-within : {A : Type 0} (test : A → Bool) (xs : List A) → cond (leb (upToFirst test xs) 0) (firstOf test xs) none ≡ none
-unfolding upToFirst firstOf
-none-within test [] = refl
-none-within test (x ∷ xs) = go (test x)
-  where
-    go : (t : Bool) → cond (leb (cond t 1 (1 + upToFirst test xs)) 0) (cond t (some x) (firstOf test xs)) none ≡ none
-    go true = refl
-    go false = rw (lt-leb (1 + upToFirst test xs) 0 (omega arith))
 
 -- ---- with set_size 1
 
@@ -109,11 +99,6 @@ module _ (T : Try) (one : T .settings .«set_size» ≡ 1) where
 -- ---- tries of which none finds: all are made
 
 module _ (p : Params) (es : List Element) (finds : (R : ℕ) → tryFinds (tryOf p es R) ≡ none) where
-  pub tries-made : (w R sum : ℕ) → triesFrom p es w R sum .made ≡ R + w
-  unfolding triesFrom unlessFound
-  tries-made zero R sum = omega arith
-  tries-made (suc w) R sum = rw (finds (R + 1)) (tries-made w (R + 1) _ ∙ omega arith)
-
   pub tries-find-none : (w R sum : ℕ) → triesFrom p es w R sum .proof ≡ none
   unfolding triesFrom unlessFound
   tries-find-none zero R sum = refl
@@ -123,31 +108,6 @@ module _ (p : Params) (es : List Element) (finds : (R : ℕ) → tryFinds (tryOf
   unfolding triesFrom unlessFound
   tries-count k C zero R sum = omega arith
   tries-count k C (suc w) R sum = rw (finds (R + 1), C (R + 1)) (tries-count k C w (R + 1) (sum + k) ∙ omega arith)
-
--- ---- with search_width 0 or dfs_bound 0 the tries are still made, all of them: none finds
-
-no-width : (T : Try) → T .settings .«search_width» ≡ 0 → tryFinds T ≡ none
-unfolding tryFinds chainsFrom firstOf
-no-width T W =
-    ap
-    (λ (w : ℕ). cond (leb (upToFirst (passing T) (chainsFrom T w 0)) (T .settings .«dfs_bound»)) (firstOf (passing T) (chainsFrom T w 0)) none)
-    W
-    ∙ either-way (leb (upToFirst (passing T) (chainsFrom T 0 0)) (T .settings .«dfs_bound»)) none
-
-no-bound : (T : Try) → T .settings .«dfs_bound» ≡ 0 → tryFinds T ≡ none
-unfolding tryFinds
-no-bound T B =
-    ap (λ (b : ℕ). cond (leb (upToFirst (passing T) (existing T)) b) (firstOf (passing T) (existing T)) none) B
-    ∙ none-within (passing T) (existing T)
-
-module _ (p : Params) (es : List Element) where
-  pub made-with-no-width : p .«search_width» ≡ 0 → searched p es .made ≡ p .«max_retries»
-  unfolding searched
-  made-with-no-width W = tries-made p es (λ R. no-width (tryOf p es R) W) (p .«max_retries») 0 0 ∙ omega arith
-
-  pub made-with-no-bound : p .«dfs_bound» ≡ 0 → searched p es .made ≡ p .«max_retries»
-  unfolding searched
-  made-with-no-bound B = tries-made p es (λ R. no-bound (tryOf p es R) B) (p .«max_retries») 0 0 ∙ omega arith
 
 -- ---- with q 0 nothing passes: no number is below X
 

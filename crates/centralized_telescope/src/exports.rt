@@ -1,7 +1,7 @@
 // The verifier as C and Rust call it: settings one by one, ends and indexes as lent bytes, and the answer is a number.
 ghost use mathlib.Core.Path.{_≡_};
 ghost use mathlib.Core.Bool.{_||_};
-ghost use Prim.Native.Nat.{_+_, _/_, _<_, _≤_};
+ghost use Prim.Native.Nat.{_/_, _<_, _≤_};
 ghost use lib.ListN.{length, getD};
 ghost use Rattle.sampling.specs.Sample.{valueOf, thresholdOrRefusal};
 ghost use Rattle.centralized_telescope.specs.Elements.{elements, endWrong, dataLong, listCheck, listNumber};

@@ -104,9 +104,13 @@ pub fn completeness(i: usize, name: &[u8]) -> Double {
     read
 }
 
-// Argument i, a file's name, at the start of `name`: how many bytes.
-pub fn path(i: usize, name: &mut [u8]) -> usize
-    ensures { λ r. ⌜ Counts r (now (name .exit)) ⌝ }
+// Argument i, a file's name, at the start of `path`: how many bytes. 0 and a message where it is empty or doesn't fit.
+pub fn path(i: usize, name: &[u8], path: &mut [u8]) -> usize
+    ensures { λ r. ⌜ Counts r (now (path .exit)) ⌝ }
 {
-    os::arg(i, name)
+    let n = os::arg(i, path);
+    if n == 0 {
+        say_wrong(i, name, b"the name of a file, of 1 to 4096 bytes");
+    }
+    n
 }

@@ -4,8 +4,8 @@
 //     prove_and_verify ELEMENTS PROOF SET_SIZE PROOF_SIZE MAX_RETRIES SEARCH_WIDTH DFS_BOUND Q
 //
 // The first takes the small case's settings for proofs of U elements and completeness C, the second each setting by itself. ELEMENTS has an
-// element to a line: its data in hexadecimal, `-` where it is empty, and perhaps a space and its index in decimal. PROOF is written once a
-// proof is found: a line `proof R S`, then its elements, in the same form. C is a whole number, or 0x and the 16 hexadecimal digits of a
+// element to a line: its data in hexadecimal, `-` where it is empty, and perhaps a space and its index in decimal. PROOF is a new
+// file, made once a proof is found: a line `proof R S`, then its elements, in the same form. C is a whole number, or 0x and the 16 hexadecimal digits of a
 // double's bits; Q is such 16 digits. There is room for 65,536 elements of 1,048,576 data bytes in all, and for 524,288 data bytes in a
 // proof: with the deepest search, that is what fits the system's ordinary stack of 8 MB.
 mod args;
@@ -25,7 +25,9 @@ fn say_usage() {
     say(
         b"ELEMENTS  a file of elements, one to a line: data in hexadecimal, or -, and perhaps a space and the index\n",
     );
-    say(b"PROOF     the file that the proof is written to, once one is found\n");
+    say(
+        b"PROOF     the file that the proof is written to, once one is found; it must not be there yet\n",
+    );
     say(
         b"U, C      proof size and completeness of the small case; C a whole number, or 0x and 16 hexadecimal digits of a double\n",
     );
@@ -40,9 +42,11 @@ fn main() {
         settings::Asked::Usage => say_usage(),
         settings::Asked::Refused => {}
         settings::Asked::Settings(p) => {
-            let n = args::path(1, &mut elements);
-            let m = args::path(2, &mut proof);
-            search::run(p, &elements[..n], &proof[..m]);
+            let n = args::path(1, b"ELEMENTS", &mut elements);
+            let m = args::path(2, b"PROOF", &mut proof);
+            if n != 0 && m != 0 {
+                search::run(p, &elements[..n], &proof[..m]);
+            }
         }
     }
 }

@@ -72,7 +72,7 @@ fn write_elements(fd: i32, data: &[u8], ends: &[u32], marks: &[u8], indexes: &[u
     true
 }
 
-// Whether the file could be written whole.
+// Whether the file could be made, as a new one, and written whole.
 fn is_written(
     name: &[u8],
     counters: Counters,
@@ -81,7 +81,7 @@ fn is_written(
     marks: &[u8],
     indexes: &[u64],
 ) -> bool {
-    let fd = os::open_overwrite(name);
+    let fd = os::create(name);
     if fd < 0 {
         return false;
     }

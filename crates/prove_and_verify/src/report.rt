@@ -45,7 +45,7 @@ pub fn say_refused(number: u64) {
     say_outcome(b"refused", number);
 }
 
-// What is wrong with a file.
+// A sentence about a file.
 pub fn say_of_file(name: &[u8], what: &[u8]) {
     say(name);
     say(b": ");

@@ -88,10 +88,24 @@ fn say_task(p: Params, elements: &[u8], n: usize) {
     say(b"\n");
 }
 
-// Reads the file of elements, searches, and writes the proof's file.
+// Whether there is a file of this name.
+fn is_there(name: &[u8]) -> bool {
+    let fd = os::open_read(name);
+    if fd < 0 {
+        return false;
+    }
+    libc::close(fd);
+    true
+}
+
+// Reads the file of elements, searches, and writes the proof's file. That one must be new: nothing is written over, the elements least of
+// all, whatever path or link leads there. It is asked before the search, which may be long.
 pub fn run(p: Params, elements: &[u8], proof: &[u8]) {
-    if check::same(elements, proof) {
-        say_of_file(proof, b"the proof would be written over the elements");
+    if is_there(proof) {
+        say_of_file(
+            proof,
+            b"is there already, and a proof is written over nothing",
+        );
         return;
     }
     let mut data = elements_file::data_room();

@@ -104,8 +104,8 @@ pub fn by_arguments(words: usize) -> Asked {
 pub fn say_settings(p: Params) {
     say_figure(b"settings: set size ", p.set_size);
     say_figure(b", proof size ", p.proof_size);
-    say_figure(b", up to ", p.max_retries);
-    say_figure(b" tries, search width ", p.search_width);
+    say_figure(b", tries up to ", p.max_retries);
+    say_figure(b", search width ", p.search_width);
     say_figure(b", step bound ", p.dfs_bound);
     say(b", q ");
     io::print_hex(STDOUT_FILENO, double::bits_of(p.q), 16);

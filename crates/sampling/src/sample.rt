@@ -163,8 +163,8 @@ fn is_outside_unit(q: f64) -> bool
 }
 
 // The smaller of floor(q * 2^128) and 2^128 - 1, exactly. q is digits * 2^(exponent - 1075), so q * 2^128 is digits * 2^(exponent - 947),
-// with digits of 53 bits. By the exponent: below 884 it is less than 1, a subnormal q too; up to 947 it fits the low word; from 1011 on
-// its low word is 0; at 1023 q is 1.
+// with digits of 53 bits. By the exponent: up to 894 it is less than 1, a subnormal q too, and below 884 the shift would be 64 or more; up to
+// 947 it fits the low word; from 1011 on its low word is 0; at 1023 q is 1.
 fn threshold_words(q: f64) -> Words
     requires { ⌜ outsideUnit q ≡ false ⌝ }
     ensures { λ r. ⌜ valueOf r ≡ threshold q ⌝ }

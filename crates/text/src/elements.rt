@@ -1,6 +1,6 @@
 // Elements as text, one to a line: the data in hexadecimal, `-` where it is empty, and perhaps a space and the index in decimal.
 ghost use mathlib.Core.Path.{_≡_};
-ghost use Prim.Native.Nat.{_+_, _≤_, _<_};
+ghost use Prim.Native.Nat.{_+_, _<_};
 ghost use lib.ListN.{length};
 ghost use Rattle.io.specs.Counts.{Counts};
 ghost use Rattle.text.specs.Lists.{Counted};
@@ -30,7 +30,7 @@ pub struct Added {
 }
 
 // An index as it is lent, where a text writes one or none.
-pub struct Index {
+struct Index {
     pub known: bool,
     pub mark: u8,
     pub number: u64,
@@ -57,7 +57,7 @@ fn one_more(elements: usize, bytes: usize) -> Added
 }
 
 // The index of an element that has none.
-pub fn no_index() -> Index {
+fn no_index() -> Index {
     Index {
         known: true,
         mark: 0,
@@ -66,7 +66,7 @@ pub fn no_index() -> Index {
 }
 
 // The index that a word writes.
-pub fn index_of_word(word: &[u8]) -> Index {
+fn index_of_word(word: &[u8]) -> Index {
     let read = number::decimal(word);
     Index {
         known: read.known,
@@ -160,7 +160,7 @@ fn put(
 }
 
 // A list of `elements` elements and `bytes` data bytes, lent with room for more, gets the element of a word and an index.
-pub fn add(
+fn add(
     word: &[u8],
     index: Index,
     elements: usize,

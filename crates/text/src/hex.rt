@@ -14,7 +14,7 @@ pub struct Unhexed {
 }
 
 // The value of a digit, or 16 of any other byte. Capital letters are none: what the programs here read has small ones only.
-pub fn digit(c: u8) -> u8
+fn digit(c: u8) -> u8
     ensures { λ r. ⌜ (r ≡ digitValue c) × (r ≤ 16) ⌝ }
 {
     match c {

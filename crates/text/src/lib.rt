@@ -1,7 +1,7 @@
 // Reading text: a file by its lines, the words of a line, numbers, hexadecimal and elements; and saying something. For the programs of this
 // repository.
 //
-// No function here asks anything of its caller but `words::next_start`.
+// No function that is seen outside asks anything of its caller.
 pub mod double;
 pub mod elements;
 pub mod hex;

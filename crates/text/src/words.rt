@@ -20,7 +20,7 @@ pub fn word_at(line: &[u8], start: usize) -> &[u8] {
 }
 
 // Where the next word starts. Past the line's end: there is none.
-pub fn next_start(line: &[u8], start: usize) -> usize
+fn next_start(line: &[u8], start: usize) -> usize
     requires { ⌜ start ≤ length (now line) ⌝ }
     ensures { λ r. ⌜ (start < r) × (r ≤ length (now (line .entry)) + 1) ⌝ }
 {

@@ -15,7 +15,7 @@ pub fn run(run: &mut Run, cases: u64) -> Checked {
         let (kind, count) = (run.rng.below(KINDS), run.rng.below(most) as usize);
         check_all(run, kind, count)?;
     }
-    for kind in [NUMBERS, PREFIXES, LONG_ALIKE] {
+    for kind in [NUMBERS, PREFIXES, ONE_BYTE_OFF] {
         check_all(run, kind, if kind == NUMBERS { ELEMENTS } else { 4096 })?;
     }
     let same = list_of(&mut run.rng, &vec![vec![7; 32]; ELEMENTS]);
@@ -59,7 +59,7 @@ fn list_of(rng: &mut Rng, elements: &[Vec<u8>]) -> List {
 pub const KINDS: u64 = 5;
 const NUMBERS: u64 = 0;
 const PREFIXES: u64 = 1;
-const LONG_ALIKE: u64 = 2;
+const ONE_BYTE_OFF: u64 = 2;
 
 pub fn made(rng: &mut Rng, kind: u64, count: usize) -> Vec<Vec<u8>> {
     let mut room = [0; BYTES];
@@ -70,8 +70,8 @@ pub fn made(rng: &mut Rng, kind: u64, count: usize) -> Vec<Vec<u8>> {
         NUMBERS => [&room[..24], &(i as u64).to_be_bytes()].concat(),
         // Each begins as the next does; the first is empty.
         PREFIXES => room[..i % (BYTES + 1)].to_vec(),
-        // Of one length, with a difference in one byte, or in none.
-        LONG_ALIKE => {
+        // Of one length, 1 to 33, each with one byte of the same bytes altered.
+        ONE_BYTE_OFF => {
             let mut bytes = room[..1 + len].to_vec();
             bytes[rng.below(1 + len as u64) as usize] ^= 1 + rng.below(255) as u8;
             bytes

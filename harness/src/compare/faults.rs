@@ -9,8 +9,11 @@ fn over(rng: &mut Rng, limit: u64) -> u64 {
     match rng.below(4) {
         0 => limit + 1,
         1 => u64::MAX - rng.below(2),
-        // The limit would be kept to if only the low half were looked at.
-        2 => limit | 1 << (48 + 1 + rng.below(15)),
+        // The limit would be kept to if only the low bits were looked at.
+        2 => {
+            let lowest = u64::from(u64::BITS - limit.leading_zeros());
+            limit | 1 << (lowest + rng.below(u64::from(u64::BITS) - lowest))
+        }
         _ => limit + 1 + rng.below(u64::MAX - limit),
     }
 }

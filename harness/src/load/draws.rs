@@ -10,13 +10,13 @@ const DATA: usize = 1 << 22;
 
 /// A number up to `most`: at either end, anywhere between, or of any size, each count of binary digits as likely as another.
 pub fn up_to(rng: &mut Rng, most: u64) -> u64 {
-    let digits = rng.below(u64::from(u64::BITS - most.leading_zeros()) + 1);
+    let digits = rng.below(u64::from(u64::BITS - most.leading_zeros()) + 1) as u32;
     match rng.below(10) {
         0 => most,
         1 => most.saturating_sub(1),
         2 => rng.below(3).min(most),
         3 => rng.below(most + 1),
-        _ => rng.below(1 << digits).min(most),
+        _ => (rng.word() & u64::MAX.checked_shr(u64::BITS - digits).unwrap_or(0)).min(most),
     }
 }
 
