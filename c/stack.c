@@ -1,11 +1,13 @@
 /*
- * How much stack alba_verify takes, with the longest proof that there is: it is run on a thread whose stack was painted before, and so is a
- * function that does nothing. The deepest byte that lost its paint tells; the difference is the verifier's.
+ * How much stack alba_verify takes, with no element and up to the longest proof that there is: it is run on a thread whose stack was
+ * painted before, and so is a function that does nothing. The deepest byte that lost its paint tells; the difference is the verifier's.
+ * It is to be linked so that names are bound at the start (-z now): otherwise the first call of memcpy is looked up on the stack measured.
  */
 #define _POSIX_C_SOURCE 200809L
 
 #include "telescope.h"
 
+#include <inttypes.h>
 #include <pthread.h>
 #include <stdio.h>
 #include <stdlib.h>
@@ -16,14 +18,18 @@ enum { ROOM = 1 << 20, PAINT = 0xa5, SIZE = ALBA_MAX_PROOF_SIZE, BYTES = ALBA_MA
 /* What telescope.h says that it takes. */
 enum { SAID = 20000 };
 
+static const uint64_t proof_sizes[] = {0, 1, 100, SIZE};
+
 static uint8_t data[SIZE * BYTES], ends[4 * SIZE], marks[SIZE], indexes[8 * SIZE];
+static uint64_t proof_size;
 static uint32_t answer;
 
 static void *nothing(void *unused) { return unused; }
 
 /* With set_size 1 every chain exists, so all elements are hashed; with q = 1 it passes. */
 static void *verify(void *unused) {
-    answer = alba_verify(1, SIZE, 1, 1, 0, 1.0, 0, 0, data, sizeof data, ends, sizeof ends, marks, sizeof marks, indexes, sizeof indexes);
+    answer = alba_verify(1, proof_size, 1, 1, 0, 1.0, 0, 0, data, BYTES * proof_size, ends, 4 * proof_size, marks, proof_size, indexes,
+                         8 * proof_size);
     return unused;
 }
 
@@ -58,9 +64,17 @@ int main(void) {
             ends[4 * i + j] = (uint8_t)(end >> (24 - 8 * j));
         marks[i] = 1;
     }
-    const size_t without = depth_of(nothing), with = depth_of(verify);
-    if (answer != ALBA_ACCEPTED)
-        stop("the proof isn't accepted");
-    printf("stack: alba_verify takes %zu bytes at proof_size %d with %d data bytes an element\n", with - without, SIZE, BYTES);
-    return with - without <= SAID ? 0 : 1;
+    const size_t without = depth_of(nothing);
+    size_t most = 0;
+    printf("stack: alba_verify takes");
+    for (size_t i = 0; i < sizeof proof_sizes / sizeof *proof_sizes; i++) {
+        proof_size = proof_sizes[i];
+        const size_t taken = depth_of(verify) - without;
+        if (answer != ALBA_ACCEPTED)
+            stop("the proof isn't accepted");
+        most = taken > most ? taken : most;
+        printf("%s %zu bytes at proof_size %" PRIu64, i == 0 ? "" : ",", taken, proof_size);
+    }
+    printf(", with %d data bytes an element\n", BYTES);
+    return most <= SAID ? 0 : 1;
 }

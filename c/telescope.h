@@ -5,6 +5,22 @@
  * No function has a precondition on its values: each input gets one of the answers below. A pointer must be valid for the length
  * that follows it, for reads (const) or for writes; with length 0 it may be null. What is lent for writing must not overlap what is
  * lent for reading. Nothing is kept after a call, nothing is allocated, and the functions may run on several threads at once.
+ *
+ * What ALBA_ACCEPTED, green, means: the chain of the proof's elements exists and passes under the settings, which must be the loader's
+ * own. So much is proved. By the telescope's theorem, which takes SHA-256 for a random function and isn't proved here, it shows that more
+ * than f different elements stand behind the proof, f being smaller than set_size: someone who has only f goes green with a chance of at
+ * most about 2^-s, where, with the small case's settings for completeness c,
+ *
+ *     proof_size >= (s + log2 c + 5 - log2 log2 e) / log2(set_size / f)
+ *
+ * Set_size 400, proof_size 328 and c = 10, say, have s = 128 against f = 300; README.md has a table. What green doesn't mean:
+ * - that elements are distinct: a proof may have one several times, and one that is listed often counts once. The server has to call
+ *   check_distinct on its list.
+ * - that an element is genuine: invented bytes go green, and so do one board's data under many indexes. A loader must know of each
+ *   element of a proof, its index included, that a bench made it, by a signature or a key in its data.
+ * - where data stop and an index starts: the hash takes the data and, right behind, the index in 8 bytes. An index can be rewritten as
+ *   eight more data bytes, or eight data bytes as an index, and the proof stays green. Who reads board numbers out of elements must
+ *   know that.
  */
 #ifndef ALBA_TELESCOPE_H
 #define ALBA_TELESCOPE_H
@@ -41,7 +57,7 @@ extern "C" {
 #define ALBA_ACCEPTED 0u
 
 /* Refusals of the sampler; the first is the verifier's too. */
-#define ALBA_BAD_PROBABILITY 3u /* q is below 0, above 1 or NaN */
+#define ALBA_BAD_PROBABILITY 3u /* q is no number from 0 to 1 */
 #define ALBA_BAD_RANGE 7u       /* n is 0 */
 #define ALBA_BAD_LENGTH 8u      /* h_len is not 16, or out_len is not 8 */
 
@@ -49,16 +65,16 @@ extern "C" {
 #define ALBA_BAD_SET_SIZE 1u               /* set_size is not 1 to 32768 */
 #define ALBA_BAD_LIMIT 2u                  /* proof_size, max_retries, search_width or dfs_bound is over its limit */
 #define ALBA_MALFORMED 4u                  /* ends, marks and indexes don't make a list over the data */
-#define ALBA_TOO_LARGE 5u                  /* over 65536 elements, or over 4096 data bytes in one */
+#define ALBA_TOO_LARGE 5u                  /* too many elements, or too many data bytes in one */
 #define ALBA_INCORRECT_NUMBER_ELEMENTS 20u /* the list's length is not proof_size */
 #define ALBA_INVALID_PARAMETERS 21u        /* search_counter >= search_width, or retry_counter >= max_retries */
-#define ALBA_INVALID_PROOF 22u             /* the chain of the elements doesn't exist or doesn't pass */
+#define ALBA_INVALID_PROOF 22u             /* the elements make no chain that passes */
 
 /*
  * Draws a number from 0 to n - 1 out of the 16 bytes of h.
  *
- * If n is a power of two, the number is the first 8 bytes of h, big-endian, modulo n. Otherwise let i be all 16 bytes, big-endian,
- * and D the whole part of (2^128 - 1) / n: there is no draw if i >= D * n, else the number is i modulo n.
+ * For n a power of two the first half of h, big-endian, is taken modulo n. For any other n all of h is, as one big-endian number, but
+ * only if that is below the greatest multiple of n up to 2^128 - 1: from there on there is no draw.
  *
  * h, h_len      the hash; h_len must be 16
  * n             how many numbers there are to draw from: 1 to 2^64 - 1
@@ -73,7 +89,7 @@ uint32_t alba_sample_uniform(const uint8_t *h, size_t h_len, uint64_t n, uint8_t
  * Says yes with probability q, to within 2^-128, if h is random.
  *
  * Let X be the whole part of q * 2^128, q taken as exactly what the double says, but at most 2^128 - 1; and i the 16 bytes of h,
- * big-endian. The answer is yes exactly when i < X.
+ * big-endian. The answer is yes if i < X, else no.
  *
  * h, h_len  the hash; h_len must be 16
  * q         the probability: 0 to 1, both included; negative zero is zero
@@ -86,7 +102,7 @@ uint32_t alba_sample_bernoulli(const uint8_t *h, size_t h_len, double q);
  * Says whether a proof, two counters and a list of elements, is accepted under the settings.
  *
  * The settings:
- * set_size        how many elements the prover is known to have at least: 1 to 32768
+ * set_size        n, the size that the prover's set is taken to have; a proof shows a smaller bound (above): 1 to 32768
  * proof_size      how many elements a proof has: 0 to 1024
  * max_retries     the retry counter must be below it: 0 to 65535
  * search_width    the search counter must be below it: 0 to 2^32 - 1
@@ -107,7 +123,8 @@ uint32_t alba_sample_bernoulli(const uint8_t *h, size_t h_len, double q);
  * Answers the first of these that it meets: ALBA_BAD_SET_SIZE; ALBA_BAD_LIMIT; ALBA_BAD_PROBABILITY; ALBA_MALFORMED, if ends_len is
  * no multiple of 4 or indexes_len none of 8, if the counts differ, if a mark is over 1, or if an end is before the one before it or
  * past data_len; ALBA_TOO_LARGE; ALBA_INCORRECT_NUMBER_ELEMENTS; ALBA_INVALID_PARAMETERS; ALBA_INVALID_PROOF. Else ALBA_ACCEPTED.
- * It takes time in proportion to what it is lent, and less than 20,000 bytes of stack (17,528 measured, by c/stack.c).
+ * It takes time in proportion to what it is lent, and less than 20,000 bytes of stack: 15,176 at most were measured, whatever proof_size
+ * is (c/stack.c, with symbols bound before; a first call in which memcpy and memset are still looked up takes some 2,500 more).
  */
 uint32_t alba_verify(uint64_t set_size, uint64_t proof_size, uint64_t max_retries, uint64_t search_width, uint64_t dfs_bound, double q,
                      uint64_t retry_counter, uint64_t search_counter, const uint8_t *data, size_t data_len, const uint8_t *ends,

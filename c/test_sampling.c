@@ -1,4 +1,7 @@
-/* The sampler's exports, called through telescope.h: the specification's cases a to g, and every refusal. */
+/*
+ * The sampler's exports, called through telescope.h: the specification's cases a to g, every refusal, and that no parameter stands in
+ * another's place.
+ */
 #include "telescope.h"
 
 #include <inttypes.h>
@@ -117,9 +120,24 @@ static void refusals(void) {
     bernoulli("h null with length 0 is refused by 8", NULL, 0, 0.5, ALBA_BAD_LENGTH);
 }
 
+/*
+ * No contract numbers the parameters: a call that draws, and each two of its arguments of one type exchanged, which are due a refusal.
+ * alba_sample_bernoulli has no two of one type.
+ */
+static void parameters(void) {
+    uint8_t h[LONGEST];
+    for (unsigned i = 0; i < LONGEST; i++)
+        h[i] = (uint8_t)(i + 1);
+    uniform("bytes 01 to 10 in hexadecimal, n = 20: 16", h, 16, 20, 8, ALBA_DRAWN, 16);
+    uniform("h_len and n exchanged", h, 20, 16, 8, ALBA_BAD_LENGTH, 0);
+    uniform("n and out_len exchanged", h, 16, 8, 20, ALBA_BAD_LENGTH, 0);
+    uniform("h and out exchanged, each with its length", h, 8, 20, 16, ALBA_BAD_LENGTH, 0);
+}
+
 int main(void) {
     cases();
     refusals();
+    parameters();
     printf("sampling: %u checks, %u failed\n", made, failed);
     return failed == 0 ? 0 : 1;
 }

@@ -1,10 +1,14 @@
-/* The verifier's export, called through telescope.h: accepted proofs, every refusal, and the order in which they are met. */
+/*
+ * The verifier's export, called through telescope.h: accepted proofs, every refusal and the order in which they are met, and that no
+ * parameter stands in another's place.
+ */
 #include "telescope.h"
 
 #include <inttypes.h>
 #include <math.h>
 #include <stdio.h>
 #include <stdlib.h>
+#include <string.h>
 
 /* More elements than the 65536 that a list may have. */
 enum { MANY = 70000 };
@@ -187,12 +191,91 @@ static void judged(void) {
     drop(more);
 }
 
+/* A proof that the original Rust found and accepts, under settings of which no two are equal. */
+enum { NUMBERS = 7, SLICES = 4 };
+static const uint64_t found[NUMBERS] = {11, 5, 7, 41, UINT64_C(1) << 33, 3, 20};
+static const double found_q = 0.0015;
+static uint8_t found_data[] = {0x3f, 0xe4, 0xe1, 0xe3, 0x0d, 0x8a, 0x2b, 0xe2, 0x60, 0x19, 0x1f, 0xe9, 0x00, 0xb8,
+                               0xf9, 0xe6, 0x75, 0x44, 0xd0, 0x58, 0xb4, 0x34, 0xca, 0x9a, 0x36, 0xe6, 0xd7};
+static uint8_t found_ends[] = {0, 0, 0, 3, 0, 0, 0, 10, 0, 0, 0, 13, 0, 0, 0, 18, 0, 0, 0, 27};
+static uint8_t found_marks[] = {1, 1, 0, 0, 1};
+static uint8_t found_indexes[] = {0x10, 0xc3, 0xe5, 0x23, 0x7f, 0x64, 0xd2, 0x42, 0x00, 0x23, 0xc4, 0xd0, 0xc5, 0x91,
+                                  0xff, 0xdf, 0xf9, 0x8d, 0xfc, 0x6a, 0x44, 0x68, 0x25, 0xd0, 0xeb, 0xfe, 0x27, 0x50,
+                                  0x21, 0xf7, 0xe3, 0x10, 0x00, 0x01, 0xe1, 0x5a, 0x40, 0x35, 0x02, 0xe0};
+
+struct slice {
+    uint8_t *bytes;
+    size_t len;
+};
+static const struct slice found_list[SLICES] = {{found_data, sizeof found_data},
+                                                {found_ends, sizeof found_ends},
+                                                {found_marks, sizeof found_marks},
+                                                {found_indexes, sizeof found_indexes}};
+
+static const char *const number_names[NUMBERS] = {"set_size",  "proof_size",    "max_retries",   "search_width",
+                                                  "dfs_bound", "retry_counter", "search_counter"};
+static const char *const slice_names[SLICES] = {"data", "ends", "marks", "indexes"};
+
+/*
+ * What is due with the row's and the column's number exchanged: a setting past its limit 1 or 2, another proof_size 20, a counter past
+ * its limit 21; where none of these, the Rust's verdict, 22.
+ */
+static const uint32_t exchanged[NUMBERS][NUMBERS] = {
+    /*                    set_size, proof_size, max_retries, search_width, dfs_bound, R, S */
+    /* set_size       */ {0, 20, 22, 21, 1, 21, 22},
+    /* proof_size     */ {0, 0, 20, 20, 2, 20, 20},
+    /* max_retries    */ {0, 0, 0, 21, 2, 21, 22},
+    /* search_width   */ {0, 0, 0, 0, 2, 21, 21},
+    /* dfs_bound      */ {0, 0, 0, 0, 0, 21, 21},
+    /* retry_counter  */ {0, 0, 0, 0, 0, 0, 21},
+};
+
+static void call(const char *what, const uint64_t *n, const struct slice *s, uint32_t answer) {
+    const struct settings settings = {n[0], n[1], n[2], n[3], n[4], found_q};
+    const struct list l = {s[0].len, s[1].len, s[2].len, s[3].len, s[0].bytes, s[1].bytes, s[2].bytes, s[3].bytes};
+    verify(what, settings, n[5], n[6], l, answer);
+}
+
+/* Names a call with two arguments exchanged. If it is accepted too, it doesn't tell them apart, and the test is at fault. */
+static const char *exchange(const char *one, const char *other, uint32_t answer) {
+    static char what[80];
+    snprintf(what, sizeof what, "%s and %s exchanged", one, other);
+    if (answer == ALBA_ACCEPTED) {
+        failed++;
+        printf("FAILED: the test itself: with %s the same answer is due\n", what);
+    }
+    return what;
+}
+
+/* No contract numbers the parameters: each two of one type are exchanged in a call that is accepted as it stands. */
+static void parameters(void) {
+    call("a proof of the Rust's", found, found_list, ALBA_ACCEPTED);
+    for (unsigned i = 0; i < NUMBERS; i++)
+        for (unsigned j = i + 1; j < NUMBERS; j++) {
+            uint64_t n[NUMBERS];
+            memcpy(n, found, sizeof n);
+            n[i] = found[j];
+            n[j] = found[i];
+            call(exchange(number_names[i], number_names[j], exchanged[i][j]), n, found_list, exchanged[i][j]);
+        }
+    /* The four lengths are such that no exchange of two slices leaves whole and equal counts. */
+    for (unsigned i = 0; i < SLICES; i++)
+        for (unsigned j = i + 1; j < SLICES; j++) {
+            struct slice s[SLICES];
+            memcpy(s, found_list, sizeof s);
+            s[i] = found_list[j];
+            s[j] = found_list[i];
+            call(exchange(slice_names[i], slice_names[j], ALBA_MALFORMED), found, s, ALBA_MALFORMED);
+        }
+}
+
 int main(void) {
     accepted();
     settings();
     malformed();
     too_large();
     judged();
+    parameters();
     printf("verify: %u checks, %u failed\n", made, failed);
     return failed == 0 ? 0 : 1;
 }

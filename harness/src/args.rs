@@ -7,7 +7,7 @@ usage: harness compare [--cases N] [--seed S]
        harness load --minutes N | --seconds N [--seed S] [--threads T]
        harness load --turn N --seed S
        harness answers [--seed S]
-       harness bench
+       harness bench [--steps]
        harness stack
        harness --help
 
@@ -35,6 +35,7 @@ answers   Writes a list of cases with the original Rust's answers to standard ou
 
 bench     Prints a Markdown table of speeds: the library, the Rust and OpenSSL, in turns within one run.
           It needs a build with --features portable (`sha2` held to portable code) or --features bench (`sha2` as it stands).
+  --steps     the time of a search's step alone, at proof sizes from 1 to 1,024
 
 stack     Says how much stack a search of the greatest length takes.
 ";
@@ -58,10 +59,18 @@ pub enum Command {
     Load(Load),
     /// With this seed.
     Answers(u64),
-    /// Whole, or the rows for one of OpenSSL's other settings, for which the benchmark starts itself again.
-    Bench(Option<usize>),
+    Bench(Bench),
     /// Whole, or the one search of a length, for which the measurement starts itself again.
     Stack(Option<u64>),
+}
+
+pub enum Bench {
+    Whole,
+    /// The time of a step against proof_size.
+    Steps,
+    /// The rows for one of OpenSSL's other settings, for which the benchmark starts itself again.
+    #[cfg_attr(not(feature = "bench"), allow(dead_code))]
+    OpenSsl(usize),
 }
 
 /// The seed of the stored answers: the commit of the source.
@@ -76,11 +85,7 @@ pub fn parse(mut words: impl Iterator<Item = String>) -> Result<Command, String>
         Some("compare") => compare(words).map(Command::Compare),
         Some("load") => load(words).map(Command::Load),
         Some("answers") => answers(words).map(Command::Answers),
-        Some("bench") => match words.next().as_deref() {
-            None => Ok(Command::Bench(None)),
-            Some(AGAIN) => Ok(Command::Bench(words.next().and_then(|word| word.parse().ok()))),
-            Some(word) => Err(format!("bench has no `{word}`")),
-        },
+        Some("bench") => bench(words).map(Command::Bench),
         Some("stack") => match words.next().as_deref() {
             None => Ok(Command::Stack(None)),
             Some(SEARCH) => Ok(Command::Stack(words.next().and_then(|word| word.parse().ok()))),
@@ -90,6 +95,16 @@ pub fn parse(mut words: impl Iterator<Item = String>) -> Result<Command, String>
         Some(word) => Err(format!("there is no `{word}`")),
         None => Err("say what to do".to_string()),
     }
+}
+
+fn bench(mut words: impl Iterator<Item = String>) -> Result<Bench, String> {
+    let part = match words.next().as_deref() {
+        None => Bench::Whole,
+        Some("--steps") => Bench::Steps,
+        Some(AGAIN) => Bench::OpenSsl(words.next().and_then(|word| word.parse().ok()).ok_or("a setting's number is wanted")?),
+        Some(word) => return Err(format!("bench has no `{word}`")),
+    };
+    words.next().map_or(Ok(part), |word| Err(format!("bench has no `{word}` here")))
 }
 
 fn compare(words: impl Iterator<Item = String>) -> Result<Compare, String> {

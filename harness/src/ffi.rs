@@ -32,13 +32,13 @@ extern "C" {
 
 /// set_size is out of range.
 pub const BAD_SET_SIZE: u32 = 1;
-/// Another whole-number limit of the settings is broken.
+/// Another number of the settings is over its limit.
 pub const BAD_LIMIT: u32 = 2;
 /// No draw, the uniform sampler's second answer beside 0.
 pub const NO_DRAW: u32 = 1;
 /// Two elements have equal data bytes, the second answer on distinctness beside 0.
 pub const REPEATED: u32 = 1;
-/// q is below 0, above 1 or not a number.
+/// q is no number from 0 to 1.
 pub const BAD_Q: u32 = 3;
 /// The four slices make no list.
 pub const BAD_LIST: u32 = 4;
@@ -62,11 +62,11 @@ pub const NOT_FOUND: u32 = 12;
 pub const WRONG_NUMBER: u32 = 20;
 /// A counter of the proof is out of range.
 pub const INVALID_PARAMETERS: u32 = 21;
-/// The proof's chain doesn't exist or doesn't pass.
+/// The proof's elements make no chain that passes.
 pub const INVALID_PROOF: u32 = 22;
-/// u is not 1 to 1,024.
+/// u is out of range.
 pub const BAD_U: u32 = 30;
-/// c is not a number, below 0 or above 65,535.
+/// c is no number from 0 to 65,535.
 pub const BAD_C: u32 = 31;
 /// The most bytes that the four strings of a hash may have together.
 pub const LONGEST: usize = 1 << 29;

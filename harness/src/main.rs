@@ -19,7 +19,7 @@ use std::process::ExitCode;
 #[cfg(not(feature = "bench"))]
 mod bench {
     /// In place of the benchmark, so that a build without it needs no OpenSSL.
-    pub fn run(_: Option<usize>) -> Result<(), String> {
+    pub fn run(_: crate::args::Bench) -> Result<(), String> {
         Err("harness: this build has no benchmark; build with --features portable, or with --features bench".to_string())
     }
 }
@@ -45,7 +45,7 @@ fn main() -> ExitCode {
         Command::Compare(options) => compare::run(&options),
         Command::Load(options) => load::run(&options),
         Command::Answers(seed) => answers::run(seed),
-        Command::Bench(setting) => bench::run(setting),
+        Command::Bench(part) => bench::run(part),
         Command::Stack(depth) => stack::run(depth),
     };
     match done {

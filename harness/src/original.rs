@@ -31,16 +31,16 @@ pub fn small_case(set_size: u64, proof_size: u64, completeness: f64) -> Settings
     }
 }
 
-/// The step count, and the proof or the number. Like the Rust's routine it doesn't look whether there are enough elements.
-pub fn search<E: AsRef<[u8]> + Clone>(s: &Settings, elements: &[Element<E>]) -> (u64, Result<ProofOf<E>, u32>) {
-    let (steps, answer) = ProofOf::bench(s.set_size, &params(s), elements);
-    (steps, answer.map_err(number_of))
+/// `Telescope::prove` over `setup_unsafe`, the prover as the Rust's users call it: the proof or the number.
+pub fn prove<E: AsRef<[u8]> + Clone>(s: &Settings, elements: &[Element<E>]) -> Result<ProofOf<E>, u32> {
+    Telescope::setup_unsafe(s.set_size, &params(s)).prove(elements).map_err(number_of)
 }
 
-/// The number of the Rust's prover as its users call it.
-pub fn prove<E: AsRef<[u8]> + Clone>(s: &Settings, elements: &[Element<E>]) -> u32 {
-    let answer: Result<ProofOf<E>, _> = Telescope::setup_unsafe(s.set_size, &params(s)).prove(elements);
-    answer.map_or_else(number_of, |_| 0)
+/// `prove_routine`, through `bench`: the step count, which the users' call doesn't tell, and the proof or the number. It doesn't look
+/// whether there are enough elements.
+pub fn prove_routine<E: AsRef<[u8]> + Clone>(s: &Settings, elements: &[Element<E>]) -> (u64, Result<ProofOf<E>, u32>) {
+    let (steps, answer) = ProofOf::bench(s.set_size, &params(s), elements);
+    (steps, answer.map_err(number_of))
 }
 
 pub fn verify<E: AsRef<[u8]> + Clone>(s: &Settings, proof: &ProofOf<E>) -> u32 {

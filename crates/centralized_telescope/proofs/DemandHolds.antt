@@ -1,20 +1,28 @@
--- Demand 3, proved.
+-- Demand 3, proved; and the example that its premise admits.
 use mathlib.Core.Path.{_≡_, refl, ap, sym, _∙_, subst}
 use mathlib.Core.Logic.{inr}
 use mathlib.Core.List.{List, [], _∷_, _++_, map}
-use Prim.Native.Nat.{ℕ, _*_, _<_}
-use lib.ListN.{length, take, length-map}
+use Prim.Native.Nat.{ℕ, _*_, _≤_, _<_}
+use native.Mathlib.Omega.{arith}
+use lib.Ieee.{isNan, lt}
+use lib.ListN.{length, take, length-map, length-take}
 use lib.Seq.{take-at}
+use Rattle.sampling.specs.Sample.{outside, threshold, thresholdOrRefusal}
 use Rattle.centralized_telescope.specs.declared.params.Params.{Params}
-use Rattle.centralized_telescope.specs.Elements.{Element, elements, elementAt}
-use Rattle.centralized_telescope.specs.ElementsLaws.{at-kept}
-use Rattle.centralized_telescope.specs.Lists.{Each}
-use Rattle.centralized_telescope.specs.ListsLaws.{each-head, each-rest}
-use Rattle.centralized_telescope.specs.Chains.{tryOf, Chain, ElementsPass, elementsOf, Passes}
+use Rattle.centralized_telescope.specs.Params.{notOneTo, limitBroken, checked}
+use Rattle.centralized_telescope.specs.ParamsLaws.{lawful}
+use Rattle.centralized_telescope.specs.Elements.{Element, elements, elementAt, endWrong, malformed, dataLong, tooLarge, listCheck}
+use Rattle.centralized_telescope.specs.ElementsLaws.{at-kept, length-elements, bytes-short}
+use Rattle.centralized_telescope.specs.Lists.{Each, someOf}
+use Rattle.centralized_telescope.specs.ListsLaws.{each-nil, each-cons, each-head, each-rest}
+use Rattle.centralized_telescope.specs.Chains.{Try, tryOf, Chain, ElementsPass, elementsOf, Passes}
 use Rattle.centralized_telescope.specs.Search.{searched}
 use Rattle.centralized_telescope.specs.Prover.{Proved, served, proved, tableAfter}
-use Rattle.centralized_telescope.specs.Demand3.{OfProver, OfVerifier, OnTheProof, proofElements, demand3}
-use Rattle.centralized_telescope.proofs.ProveAnswers.{all-served}
+use Rattle.centralized_telescope.specs.Verifier.{verdict}
+use Rattle.centralized_telescope.specs.WrittenOut.{joined, endsFrom, marksOf, indexesOf}
+use Rattle.centralized_telescope.specs.WrittenOutLaws.{Short, accepted-again, elements-again}
+use Rattle.centralized_telescope.specs.Demand3.{Served, OfProver, OfVerifier, OnTheProof, Listed, proofElements, demand3, servedExample}
+use Rattle.centralized_telescope.proofs.ProveAnswers.{served-so}
 use Rattle.centralized_telescope.proofs.VerifierDemand.{verdict-so}
 use Rattle.centralized_telescope.proofs.ProverDemand.{prover-so}
 
@@ -31,39 +39,101 @@ module _ (p : Params) (es : List Element) (R : ℕ) (c : Chain) (w : Passes (try
   chain-passes : ElementsPass p R (c .search) (elementsOf (tryOf p es R) c)
   chain-passes = (length-map (c .places) (elementAt (take (2 * p .«set_size») es)) ∙ w .exactly, (c .last, w .exists .rounds, w .yes))
 
-  written-out : (old : List ℕ) → map (elementAt es) (take (p .«proof_size») (c .places ++ old)) ≡ elementsOf (tryOf p es R) c
-  written-out old =
-      ap (map (elementAt es)) (take-at (c .places) old (p .«proof_size») (w .exactly))
-      ∙ map-kept (2 * p .«set_size») es (c .places) (w .exists .kept-places)
+-- ---- the chain's elements as a list
 
--- the verdict on the prover's proof
-on-proof : (p : Params) (es es′ : List Element) (places : List ℕ) (r : Proved) (v : ℕ) → OfProver p es places r → r .number ≡ 0
-    → es′ ≡ proofElements p es r
-    → OfVerifier p (r .retry) (r .search) es′ v
-    → OnTheProof p r v
-on-proof p es es′ places r v o n e w =
-    let f = o .proof-is n in
-    let passes = f .1 .passes in
-    let same : es′ ≡ elementsOf (tryOf p es (o .made)) (f .0) =
-    e ∙ ap (λ (ps : List ℕ). map (elementAt es) (take (p .«proof_size») ps)) (f .4) ∙ written-out p es (o .made) (f .0) passes _ in
-    let pass : ElementsPass p (r .retry) (r .search) es′ = rw (same, f .2, f .3) (chain-passes p es (o .made) (f .0) passes) in
-    let below : r .search < p .«search_width» = rw (f .3) (passes .exists .below-width) in
-    record {
-      accepts = ((λ q. w .accepts .0 q .1), (λ l. w .accepts .1 (below, l, pass)));
-      else-counters = λ l. w .counters-out .1 (pass .0, inr l);
-    }
+module _ (d n m x : List ℕ) (A : listCheck d n m x ≡ 0) (k : ℕ) where
+  all-short : (ps : List ℕ) → Each (λ (place : ℕ). place < length (take k (elements d n m x))) ps → Each Short (map (elementAt (elements d n m x)) ps)
+  all-short [] e = each-nil Short
+  all-short (place ∷ ps) e =
+      let l = each-head (λ (i : ℕ). i < length (take k (elements d n m x))) place ps e in
+      let r = each-rest (λ (i : ℕ). i < length (take k (elements d n m x))) place ps e in
+      let within : place < length n = omega (arith, l, length-take k (elements d n m x), length-elements d n m x A) in
+      each-cons Short _ _ (bytes-short d n m x A place within) (all-short ps r)
+
+list-of : (es : List Element) → length es ≤ 65536 → Each Short es → Listed es
+list-of es few short = record {
+  bytes = joined es;
+  ends = endsFrom 0 es;
+  marks = marksOf es;
+  indexes = indexesOf es;
+  accepted = accepted-again es few short;
+  same = elements-again es;
+}
+
+proof-size-few : (p : Params) → checked p .0 ≡ 0 → p .«proof_size» ≤ 1024
+proof-size-few p s = lawful p (checked p .1) (ap (λ (k : ℕ). (k, checked p .1)) s) .limits .proof-size
+
+-- ---- the claim, each field of `Demand3` a declaration of its name
+
+module _ (p : Params) (bytes ends marks indexes places table : List ℕ) (S : Served p bytes ends marks indexes places table) where
+  abbrev es : List Element
+  es = elements bytes ends marks indexes
+
+  abbrev r : Proved
+  r = proved p bytes ends marks indexes places table
+
+  of-prover : OfProver p es places r
+  unfolding served
+  of-prover =
+      subst (OfProver p es places)
+      (sym (served-so p bytes ends marks indexes places table S))
+      (prover-so p es places (tableAfter p es (searched p es .made) table))
+
+  of-verifier : (R S′ : ℕ) (bytes′ ends′ marks′ indexes′ : List ℕ)
+      → OfVerifier p R S′ bytes′ ends′ marks′ indexes′ (verdict p R S′ bytes′ ends′ marks′ indexes′)
+  of-verifier R S′ bytes′ ends′ marks′ indexes′ = verdict-so p R S′ bytes′ ends′ marks′ indexes′ (S .settings)
+
+  module _ (n : r .number ≡ 0) where
+    abbrev T : Try
+    T = tryOf p es (of-prover .made)
+
+    abbrev c : Chain
+    c = of-prover .proof-is n .0
+
+    passes : Passes T c
+    passes = of-prover .proof-is n .1 .passes
+
+    at-places : proofElements p es r ≡ map (elementAt es) (c .places)
+    at-places =
+        ap (λ (ps : List ℕ). map (elementAt es) (take (p .«proof_size») ps)) (of-prover .proof-is n .4)
+        ∙ ap (map (elementAt es)) (take-at (c .places) _ (p .«proof_size») (passes .exactly))
+
+    of-chain : proofElements p es r ≡ elementsOf T c
+    of-chain = at-places ∙ map-kept (2 * p .«set_size») es (c .places) (passes .exists .kept-places)
+
+    listed : Listed (proofElements p es r)
+    listed =
+        rw at-places
+        (list-of (map (elementAt es) (c .places))
+        (omega (arith, length-map (c .places) (elementAt es), passes .exactly, proof-size-few p (S .settings)))
+        (all-short bytes ends marks indexes (S .list) (2 * p .«set_size») (c .places) (passes .exists .kept-places)))
+
+    chain-verified : ElementsPass p (r .retry) (r .search) (proofElements p es r)
+    chain-verified = rw (of-chain, of-prover .proof-is n .2, of-prover .proof-is n .3) (chain-passes p es (of-prover .made) c passes)
+
+    below-width : r .search < p .«search_width»
+    below-width = rw (of-prover .proof-is n .3) (passes .exists .below-width)
+
+    on-the-proof : (l : Listed (proofElements p es r)) → OnTheProof p r (verdict p (r .retry) (r .search) (l .bytes) (l .ends) (l .marks) (l .indexes))
+    on-the-proof l =
+        let w = of-verifier (r .retry) (r .search) (l .bytes) (l .ends) (l .marks) (l .indexes) in
+        let pass : ElementsPass p (r .retry) (r .search) (elements (l .bytes) (l .ends) (l .marks) (l .indexes)) = rw (l .same) chain-verified in
+        record {
+          accepts = ((λ q. w .accepts .0 q .2), (λ b. w .accepts .1 (l .accepted, below-width, b, pass)));
+          else-counters = λ b. w .counters-out .1 (l .accepted, pass .0, inr b);
+        }
 
 pub demand-3 : demand3
-unfolding served
-demand-3 p bytes ends marks indexes places table S =
-    let es : List Element = elements bytes ends marks indexes in
-    let is = all-served p bytes ends marks indexes places table (S .settings) (S .list) (S .places-enough) (S .table-enough) (S .at-least) in
-    let of-prover : OfProver p es places (proved p bytes ends marks indexes places table) =
-    subst (OfProver p es places) (sym is) (prover-so p es places (tableAfter p es (searched p es .made) table)) in
-    record {
-      of-prover = of-prover;
-      of-verifier = λ R S′ bytes′ ends′ marks′ indexes′ l. verdict-so p R S′ bytes′ ends′ marks′ indexes′ (S .settings) l;
-      on-the-proof = λ n bytes′ ends′ marks′ indexes′ l e.
-          on-proof p es (elements bytes′ ends′ marks′ indexes′) places (proved p bytes ends marks indexes places table) _ of-prover n e
-          (verdict-so p _ _ bytes′ ends′ marks′ indexes′ (S .settings) l);
-    }
+demand-3 p bytes ends marks indexes places table S = record {
+  of-prover = of-prover p bytes ends marks indexes places table S;
+  of-verifier = of-verifier p bytes ends marks indexes places table S;
+  of-chain = of-chain p bytes ends marks indexes places table S;
+  listed = listed p bytes ends marks indexes places table S;
+  on-the-proof = on-the-proof p bytes ends marks indexes places table S;
+}
+
+-- ---- the example
+
+pub served-example : servedExample
+unfolding checked notOneTo limitBroken thresholdOrRefusal outside threshold listCheck malformed someOf endWrong tooLarge dataLong isNan lt
+served-example = record { settings = refl; list = refl; at-least = omega arith; places-enough = omega arith; table-enough = omega arith }

@@ -8,6 +8,7 @@ mod Tries
 mod VerifierDemand
 mod ProverDemand
 mod DemandHolds
+mod CasesHold
 mod RoundHashes
 mod BinCounting
 mod BinPlacing

@@ -12,6 +12,7 @@ use Rattle.centralized_telescope.specs.Params.{checked}
 use Rattle.centralized_telescope.specs.Elements.{elements, listCheck}
 use Rattle.centralized_telescope.specs.ListsLaws.{number-passed, number-met, second-met, two-passed, number-last}
 use Rattle.centralized_telescope.specs.Prover.{Proved, refused, served, workspaceShort, proverRefusal, proved}
+use Rattle.centralized_telescope.specs.Demand3.{Served}
 
 module _ (p : Params) (bytes ends marks indexes places table : List ℕ) where
   abbrev answer : Proved
@@ -67,3 +68,9 @@ module _ (p : Params) (bytes ends marks indexes places table : List ℕ) where
           pub all-served : p .«set_size» ≤ length ends → answer ≡ served p (elements bytes ends marks indexes) places table
           unfolding proved
           all-served f = rw (eq-eqb _ 0 (after-six ∙ rw (le-ltb (length ends) (p .«set_size») f)))
+
+-- the same of a run that demand 3 speaks of
+pub served-so : (p : Params) (bytes ends marks indexes places table : List ℕ) → Served p bytes ends marks indexes places table
+    → proved p bytes ends marks indexes places table ≡ served p (elements bytes ends marks indexes) places table
+served-so p bytes ends marks indexes places table S =
+    all-served p bytes ends marks indexes places table (S .settings) (S .list) (S .places-enough) (S .table-enough) (S .at-least)

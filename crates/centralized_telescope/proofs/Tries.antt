@@ -89,7 +89,7 @@ module _ (p : Params) (es : List Element) where
     end = inl (refl, omega arith, λ l. absurd (omega arith));
   }
   ran (suc w) R sum =
-      ran-more w R (sum + count (R + 1)) (triesFrom p es w (R + 1) (sum + count (R + 1))) (ran w (R + 1) (sum + count (R + 1))) (finds (R + 1)) refl
+      ran-more w R _ (triesFrom p es w (R + 1) _) (ran w (R + 1) _) (finds (R + 1)) refl
 
   counted : (w R sum : ℕ) → sum ≡ sumUpTo R count → triesFrom p es w R sum .count ≡ sumUpTo (triesFrom p es w R sum .made) count
   unfolding triesFrom

@@ -1,9 +1,10 @@
--- Demand 3, of the verifier: its verdict by cases.
+-- Demand 3, of the verifier: its verdict by cases. Each field of `OfVerifier` is a declaration of its name.
 use mathlib.Core.Path.{_≡_, refl, sym, _∙_}
 use mathlib.Core.Bool.{Bool, true, false, false≢true, cond, _||_}
-use mathlib.Core.Logic.{_⊎_, inl, inr}
+use mathlib.Core.Logic.{_⊎_, _↔_, inl, inr}
 use mathlib.Core.List.{List}
 use Prim.Native.Nat.{ℕ, _≤_, _<_}
+use native.Mathlib.Nat.{eq-or-lt-of-le}
 use native.Mathlib.Omega.{arith}
 use borrow.Author.Tests.{eqb-true, eqb-false, leb-true, leb-false}
 use lib.Dec.{eqb, leb}
@@ -12,90 +13,162 @@ use Rattle.centralized_telescope.specs.declared.params.Params.{Params}
 use Rattle.centralized_telescope.specs.TestLaws.{neither}
 use Rattle.centralized_telescope.specs.Params.{checked}
 use Rattle.centralized_telescope.specs.Elements.{Element, elements, listCheck}
+use Rattle.centralized_telescope.specs.ElementsLaws.{check-range}
 use Rattle.centralized_telescope.specs.Chains.{ElementsPass}
 use Rattle.centralized_telescope.specs.Verifier.{lastHash, yesOn, countersOut, judged, verdict}
 use Rattle.centralized_telescope.specs.VerifierLaws.{yes-exists, exists-yes}
-use Rattle.centralized_telescope.specs.Demand3.{OfVerifier}
-use Rattle.centralized_telescope.proofs.VerdictAnswers.{left-to-judge}
+use Rattle.centralized_telescope.specs.Demand3.{Accepted, OfVerifier}
+use Rattle.centralized_telescope.proofs.VerdictAnswers.{list-refused, left-to-judge}
 
-module _ (p : Params) (R S : ℕ) (es : List Element) where
+module _ (p : Params) (R S : ℕ) (bytes ends marks indexes : List ℕ) where
+  abbrev es : List Element
+  es = elements bytes ends marks indexes
+
+  abbrev list : ℕ
+  list = listCheck bytes ends marks indexes
+
   abbrev Long : Type 0
   Long = length es ≡ p .«proof_size»
+
+  abbrev Out : Type 0
+  Out = (p .«search_width» ≤ S) ⊎ (p .«max_retries» ≤ R)
+
+  abbrev In : Type 0
+  In = (S < p .«search_width») × (R < p .«max_retries»)
+
+  abbrev Pass : Type 0
+  Pass = ElementsPass p R S es
+
+  apart : In → Out → ⊥
+  apart i (inl o) = omega arith
+  apart i (inr o) = omega arith
+
+  -- ---- which line is met first
+
+  data Judged (v : ℕ) : Type 0 where
+    by-length : v ≡ 20 → (Long → ⊥) → Judged v
+    by-counters : v ≡ 21 → Long → Out → Judged v
+    by-chain : v ≡ 22 → Long → In → (Pass → ⊥) → Judged v
+    by-none : v ≡ 0 → In → Pass → Judged v
+
+  data Met (v : ℕ) : Type 0 where
+    by-list : v ≡ list → 0 < list → list < 6 → Met v
+    accepted : list ≡ 0 → Judged v → Met v
+
+  -- ---- where each number is the verdict
+
+  neither-way : {A B : Type 0} → (A → ⊥) → (B → ⊥) → A ↔ B
+  neither-way a b = ((λ x. absurd (a x)), (λ y. absurd (b y)))
+
+  module _ (v : ℕ) where
+    no-list-number : (k : ℕ) → 0 < k → k < 6 → Judged v → v ≡ k → ⊥
+    no-list-number k o s (by-length e n) q = omega arith
+    no-list-number k o s (by-counters e l c) q = omega arith
+    no-list-number k o s (by-chain e l i n) q = omega arith
+    no-list-number k o s (by-none e i w) q = omega arith
+
+    of-list : (k : ℕ) → 0 < k → k < 6 → Met v → (v ≡ k) ↔ (list ≡ k)
+    of-list k o s (by-list e z r) = ((λ q. sym e ∙ q), (λ q. e ∙ q))
+    of-list k o s (accepted a j) = neither-way (no-list-number k o s j) (λ q. omega arith)
+
+    at-20 : Met v → (v ≡ 20) ↔ ((list ≡ 0) × (Long → ⊥))
+    at-20 (by-list e z r) = neither-way (λ q. omega arith) (λ h. omega (arith, h .0))
+    at-20 (accepted a (by-length e n)) = ((λ _. (a, n)), (λ _. e))
+    at-20 (accepted a (by-counters e l c)) = neither-way (λ q. omega arith) (λ h. h .1 l)
+    at-20 (accepted a (by-chain e l i n)) = neither-way (λ q. omega arith) (λ h. h .1 l)
+    at-20 (accepted a (by-none e i w)) = neither-way (λ q. omega arith) (λ h. h .1 (w .0))
+
+    at-21 : Met v → (v ≡ 21) ↔ ((list ≡ 0) × Long × Out)
+    at-21 (by-list e z r) = neither-way (λ q. omega arith) (λ h. omega (arith, h .0))
+    at-21 (accepted a (by-length e n)) = neither-way (λ q. omega arith) (λ h. n (h .1))
+    at-21 (accepted a (by-counters e l c)) = ((λ _. (a, l, c)), (λ _. e))
+    at-21 (accepted a (by-chain e l i n)) = neither-way (λ q. omega arith) (λ h. apart i (h .2))
+    at-21 (accepted a (by-none e i w)) = neither-way (λ q. omega arith) (λ h. apart i (h .2))
+
+    at-22 : Met v → (v ≡ 22) ↔ ((list ≡ 0) × Long × (S < p .«search_width») × (R < p .«max_retries») × (Pass → ⊥))
+    at-22 (by-list e z r) = neither-way (λ q. omega arith) (λ h. omega (arith, h .0))
+    at-22 (accepted a (by-length e n)) = neither-way (λ q. omega arith) (λ h. n (h .1))
+    at-22 (accepted a (by-counters e l c)) = neither-way (λ q. omega arith) (λ h. apart (h .2, h .3) c)
+    at-22 (accepted a (by-chain e l i n)) = ((λ _. (a, l, i .0, i .1, n)), (λ _. e))
+    at-22 (accepted a (by-none e i w)) = neither-way (λ q. omega arith) (λ h. h .4 w)
+
+    at-0 : Met v → (v ≡ 0) ↔ ((list ≡ 0) × (S < p .«search_width») × (R < p .«max_retries») × Pass)
+    at-0 (by-list e z r) = neither-way (λ q. omega arith) (λ h. omega (arith, h .0))
+    at-0 (accepted a (by-length e n)) = neither-way (λ q. omega arith) (λ h. n (h .3 .0))
+    at-0 (accepted a (by-counters e l c)) = neither-way (λ q. omega arith) (λ h. apart (h .1, h .2) c)
+    at-0 (accepted a (by-chain e l i n)) = neither-way (λ q. omega arith) (λ h. n (h .3))
+    at-0 (accepted a (by-none e i w)) = ((λ _. (a, i .0, i .1, w)), (λ _. e))
+
+  -- ---- which it is
 
   abbrev yes : Bool
   yes = yesOn (p .q) (lastHash p R S es)
 
-  yes-passes : Long → yes ≡ true → ElementsPass p R S es
+  yes-passes : Long → yes ≡ true → Pass
   yes-passes l y = (l, yes-exists p R S es y)
 
-  passes-yes : ElementsPass p R S es → yes ≡ true
+  passes-yes : Pass → yes ≡ true
   passes-yes w = exists-yes p R S es (w .1 .0) (w .1 .1) (w .1 .2)
 
-  -- ---- each verdict, and that it is the only one
-
-  within : S < p .«search_width» → R < p .«max_retries» → (p .«search_width» ≤ S) ⊎ (p .«max_retries» ≤ R) → ⊥
-  within s r (inl o) = omega arith
-  within s r (inr o) = omega arith
-
-  module _ (v : ℕ) where
-    differs : (Long → ⊥) → v ≡ 20 → OfVerifier p R S es v
-    differs n e = record {
-      length-differs = ((λ _. n), (λ _. e));
-      counters-out = ((λ q. absurd (omega arith)), (λ h. absurd (n (h .0))));
-      fails = ((λ q. absurd (omega arith)), (λ h. absurd (n (h .0))));
-      accepts = ((λ q. absurd (omega arith)), (λ h. absurd (n (h .2 .0))));
-    }
-
-    out : Long → (p .«search_width» ≤ S) ⊎ (p .«max_retries» ≤ R) → v ≡ 21 → OfVerifier p R S es v
-    out l o e = record {
-      length-differs = ((λ q. absurd (omega arith)), (λ h. absurd (h l)));
-      counters-out = ((λ _. (l, o)), (λ _. e));
-      fails = ((λ q. absurd (omega arith)), (λ h. absurd (within (h .1) (h .2) o)));
-      accepts = ((λ q. absurd (omega arith)), (λ h. absurd (within (h .0) (h .1) o)));
-    }
-
-    module _ (l : Long) (s : S < p .«search_width») (r : R < p .«max_retries») where
-      fails-by : (ElementsPass p R S es → ⊥) → v ≡ 22 → OfVerifier p R S es v
-      fails-by n e = record {
-        length-differs = ((λ q. absurd (omega arith)), (λ h. absurd (h l)));
-        counters-out = ((λ q. absurd (omega arith)), (λ h. absurd (within s r (h .1))));
-        fails = ((λ _. (l, s, r, n)), (λ _. e));
-        accepts = ((λ q. absurd (omega arith)), (λ h. absurd (n (h .2))));
-      }
-
-      accepts-by : ElementsPass p R S es → v ≡ 0 → OfVerifier p R S es v
-      accepts-by w e = record {
-        length-differs = ((λ q. absurd (omega arith)), (λ h. absurd (h l)));
-        counters-out = ((λ q. absurd (omega arith)), (λ h. absurd (within s r (h .1))));
-        fails = ((λ q. absurd (omega arith)), (λ h. absurd (h .3 w)));
-        accepts = ((λ _. (s, r, w)), (λ _. e));
-      }
-
-  -- ---- which it is
-
-  out-is : leb (p .«search_width») S || leb (p .«max_retries») R ≡ true → (p .«search_width» ≤ S) ⊎ (p .«max_retries» ≤ R)
+  out-is : leb (p .«search_width») S || leb (p .«max_retries») R ≡ true → Out
   out-is e = go (leb (p .«search_width») S) refl e
     where
-      go : (b : Bool) → leb (p .«search_width») S ≡ b → b || leb (p .«max_retries») R ≡ true → (p .«search_width» ≤ S) ⊎ (p .«max_retries» ≤ R)
+      go : (b : Bool) → leb (p .«search_width») S ≡ b → b || leb (p .«max_retries») R ≡ true → Out
       go true q v = inl (leb-true _ _ q)
       go false q v = inr (leb-true _ _ v)
 
-  in-is : leb (p .«search_width») S || leb (p .«max_retries») R ≡ false → (S < p .«search_width») × (R < p .«max_retries»)
+  in-is : leb (p .«search_width») S || leb (p .«max_retries») R ≡ false → In
   in-is e = let w = neither (leb (p .«search_width») S) e in (leb-false _ _ (w .0), leb-false _ _ (w .1))
 
-  judged-so : OfVerifier p R S es (judged p R S es)
+  judged-so : Judged (judged p R S es)
   unfolding judged
   judged-so = go (eqb (length es) (p .«proof_size»)) refl (countersOut p R S) refl yes refl
     where
       go : (a : Bool) → eqb (length es) (p .«proof_size») ≡ a → (b : Bool) → countersOut p R S ≡ b → (c : Bool) → yes ≡ c
-          → OfVerifier p R S es (cond a (cond b 21 (cond c 0 22)) 20)
-      go false l b o c y = differs 20 (eqb-false _ _ l) refl
-      go true l true o c y = out 21 (eqb-true _ _ l) (out-is o) refl
-      go true l false o true y = let w = in-is o in accepts-by 0 (eqb-true _ _ l) (w .0) (w .1) (yes-passes (eqb-true _ _ l) y) refl
-      go true l false o false y = let w = in-is o in fails-by 22 (eqb-true _ _ l) (w .0) (w .1) (λ k. false≢true (sym y ∙ passes-yes k)) refl
+          → Judged (cond a (cond b 21 (cond c 0 22)) 20)
+      go false l b o c y = by-length refl (eqb-false _ _ l)
+      go true l true o c y = by-counters refl (eqb-true _ _ l) (out-is o)
+      go true l false o true y = by-none refl (in-is o) (yes-passes (eqb-true _ _ l) y)
+      go true l false o false y = by-chain refl (eqb-true _ _ l) (in-is o) (λ k. false≢true (sym y ∙ passes-yes k))
 
--- on an accepted list, under settings within the limits, the verdict is that
-pub verdict-so : (p : Params) (R S : ℕ) (bytes ends marks indexes : List ℕ) → checked p .0 ≡ 0 → listCheck bytes ends marks indexes ≡ 0
-    → OfVerifier p R S (elements bytes ends marks indexes) (verdict p R S bytes ends marks indexes)
-verdict-so p R S bytes ends marks indexes s l =
-    rw (← left-to-judge p R S bytes ends marks indexes s l) (judged-so p R S (elements bytes ends marks indexes))
+  module _ (s : checked p .0 ≡ 0) where
+    abbrev v : ℕ
+    v = verdict p R S bytes ends marks indexes
+
+    met : Met v
+    met = elim (eq-or-lt-of-le {n = 0} {m = list} (omega arith)) [
+      | inl e ↦ let a : list ≡ 0 = sym e in accepted a (rw (← left-to-judge p R S bytes ends marks indexes s a) judged-so)
+      | inr l ↦
+          by-list (sym (list-refused p R S bytes ends marks indexes s list refl (λ z. omega arith))) l
+          (check-range bytes ends marks indexes)
+    ]
+
+    -- ---- the fields
+
+    malformed : (v ≡ 4) ↔ (list ≡ 4)
+    malformed = of-list v 4 (omega arith) (omega arith) met
+
+    too-large : (v ≡ 5) ↔ (list ≡ 5)
+    too-large = of-list v 5 (omega arith) (omega arith) met
+
+    length-differs : (v ≡ 20) ↔ (Accepted bytes ends marks indexes × (Long → ⊥))
+    length-differs = at-20 v met
+
+    counters-out : (v ≡ 21) ↔ (Accepted bytes ends marks indexes × Long × Out)
+    counters-out = at-21 v met
+
+    fails : (v ≡ 22) ↔ (Accepted bytes ends marks indexes × Long × (S < p .«search_width») × (R < p .«max_retries») × (Pass → ⊥))
+    fails = at-22 v met
+
+    accepts : (v ≡ 0) ↔ (Accepted bytes ends marks indexes × (S < p .«search_width») × (R < p .«max_retries») × Pass)
+    accepts = at-0 v met
+
+    pub verdict-so : OfVerifier p R S bytes ends marks indexes v
+    verdict-so = record {
+      malformed = malformed;
+      too-large = too-large;
+      length-differs = length-differs;
+      counters-out = counters-out;
+      fails = fails;
+      accepts = accepts;
+    }

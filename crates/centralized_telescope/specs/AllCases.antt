@@ -1,16 +1,107 @@
--- Cases a to l of document 01, "Cases to prove", as one result: the sampler's table (a to g), the small case's (h) and the search's (i to l).
+-- Document 01, Cases to prove: a to l as one table over the definitions that the contracts cite.
+use mathlib.Core.Path.{_≡_}
+use mathlib.Core.Bool.{false}
+use mathlib.Core.List.{List, [], _∷_, _++_}
 use Prim.Native.Nat.{ℕ}
-use lib.Dec.{T}
-use Rattle.sampling.specs.Cases as sampler
+use lib.IntN.{ℤ, pos, negsuc}
+use lib.Ieee.{Float, fin}
+use lib.ListN.{length, replicate}
+use Rattle.sampling.specs.Sample.{uniform, bernoulli}
+use Rattle.centralized_telescope.specs.declared.params.Params.{Params}
+use Rattle.centralized_telescope.specs.Params.{completenessOut, smallCase}
 use Rattle.centralized_telescope.specs.Lists.{Each}
-use Rattle.centralized_telescope.specs.ParamsCases as small
-use Rattle.centralized_telescope.specs.SearchCases as search
+use Rattle.centralized_telescope.specs.Prover.{proved}
+use Rattle.centralized_telescope.specs.Demand3.{Served}
 
-pub record AllCases : Type 0 where
-  pub a-to-g : T (sampler.all-hold sampler.cases)
-  pub h : T (small.all-hold small.cases)
-  -- with any elements and any workspace, and l with any proof_size u and any search_width w
-  pub i-to-l : (u w : ℕ) → Each search.Holds (search.cases u w)
+-- ---- bytes and doubles
 
-pub all-cases : AllCases
-all-cases = record { a-to-g = sampler.cases-hold; h = small.cases-hold; i-to-l = search.cases-hold }
+-- 15 bytes b, then the byte l
+abbrev pub ends : ℕ → ℕ → List ℕ
+ends b l = replicate 15 b ++ (l ∷ [])
+
+-- the byte f, then 15 bytes b
+abbrev pub starts : ℕ → ℕ → List ℕ
+starts f b = f ∷ replicate 15 b
+
+-- 2 ^ e
+abbrev pub two-to : ℤ → Float
+two-to e = fin false 1 e
+
+-- ---- what a row says
+
+pub data Case : Type 0 where
+  -- 16 bytes and n; the number and the value drawn
+  draws : List ℕ → ℕ → ℕ → ℕ → Case
+  -- n; the number and the value, whatever the bytes
+  always-draws : ℕ → ℕ → ℕ → Case
+  -- 16 bytes and q; 1 for yes, 0 for no
+  tells : List ℕ → Float → ℕ → Case
+  -- u; search_width and dfs_bound, whatever the completeness
+  sets : ℕ → ℕ → ℕ → Case
+  -- how many elements; proof_size, search_width, max_retries and dfs_bound; the number and the count
+  searches : ℕ → ℕ → ℕ → ℕ → ℕ → ℕ → ℕ → Case
+  -- how many elements, and dfs_bound; the number and the count with max_retries 0, whatever proof_size and search_width
+  tries-none : ℕ → ℕ → ℕ → ℕ → Case
+
+-- settings of i to l: q is 0, and set_size 1
+abbrev pub settingsOf : ℕ → ℕ → ℕ → ℕ → Params
+settingsOf size width retries bound =
+    record { «set_size» = 1; «proof_size» = size; «max_retries» = retries; «search_width» = width; «dfs_bound» = bound; q = fin false 0 (pos 0) }
+
+-- a run under such settings, whatever the elements, being so many, and the workspace
+abbrev pub Ends : Params → ℕ → ℕ → ℕ → Type 0
+Ends p n number count =
+    (bytes ends marks indexes places table : List ℕ) → Served p bytes ends marks indexes places table → length ends ≡ n
+    → (proved p bytes ends marks indexes places table .number ≡ number) × (proved p bytes ends marks indexes places table .count ≡ count)
+
+unfoldable pub Holds : Case → Type 0
+Holds (draws h n number value) = uniform h n ≡ (number, value)
+Holds (always-draws n number value) = (h : List ℕ) → uniform h n ≡ (number, value)
+Holds (tells h q number) = bernoulli h q ≡ number
+Holds (sets u d bound) =
+    (c : Float) → completenessOut c ≡ false
+    → (smallCase u c .0 ≡ 0) × (smallCase u c .1 .«search_width» ≡ d) × (smallCase u c .1 .«dfs_bound» ≡ bound)
+Holds (searches n size width retries bound number count) = Ends (settingsOf size width retries bound) n number count
+Holds (tries-none n bound number count) = (size width : ℕ) → Ends (settingsOf size width 0 bound) n number count
+
+-- ---- the table
+
+unfoldable pub cases : List Case
+cases =
+    -- a, b
+    draws (replicate 7 0 ++ (0x0d ∷ replicate 8 0xff)) 8 0 5
+    ∷ always-draws 1 0 0
+    -- c
+    ∷ draws (ends 0xff 0xf9) 10 0 9
+    ∷ draws (ends 0xff 0xfa) 10 1 0
+    -- d
+    ∷ draws (ends 0xff 0xfe) 3 0 2
+    ∷ draws (ends 0xff 0xff) 3 1 0
+    -- e
+    ∷ tells (ends 0xff 0xff) (two-to (pos 0)) 0
+    ∷ tells (ends 0xff 0xfe) (two-to (pos 0)) 1
+    -- f
+    ∷ tells (starts 0x7f 0xff) (two-to (negsuc 0)) 1
+    ∷ tells (starts 0x80 0) (two-to (negsuc 0)) 0
+    -- g
+    ∷ tells (ends 0 0) (two-to (negsuc 127)) 1
+    ∷ tells (ends 0 0) (two-to (negsuc 128)) 0
+    -- h
+    ∷ sets 1 80 515
+    ∷ sets 200 15904 10291586
+    -- i
+    ∷ searches 1 2 1 3 100 12 9
+    ∷ searches 1 2 1 3 9 11 9
+    -- j
+    ∷ searches 2 2 1 1 100 12 7
+    ∷ searches 2 2 1 1 4 11 4
+    -- k
+    ∷ searches 1 0 2 1 5 12 2
+    ∷ searches 1 0 2 1 2 11 2
+    -- l
+    ∷ tries-none 1 0 11 0
+    ∷ tries-none 1 1 12 0
+    ∷ []
+
+abbrev pub AllCases : Type 0
+AllCases = Each Holds cases

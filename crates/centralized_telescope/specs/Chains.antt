@@ -13,19 +13,18 @@ use Rattle.centralized_telescope.specs.Rounds.{startHash, nextHash, roun
 
 -- ---- of a list of elements: what prover and verifier share
 
--- from a round with the hash h and the id i: "each element's bin equals the id of the round before it, and each next round exists";
+-- from a round with the hash h and the id i on: an element's bin is the id reached by then, and the round that it makes exists;
 -- the last round's hash is `last`
 unfoldable pub Grows : Params → ℕ → List ℕ → ℕ → List Element → List ℕ → Type 0
 Grows p R h i [] last = last ≡ h
 Grows p R h i (e ∷ es) last =
     (binOf (p .«set_size») R e ≡ some i) × ((j : ℕ) × (roundId (p .«set_size») (nextHash h e) ≡ some j) × Grows p R (nextHash h e) j es last)
 
--- "It exists when its start round exists, each element's bin equals the id of the round before it, and each next round exists."
+-- 01, Search, existence: there is a start round, and the elements grow from it
 abbrev pub ElementsExist : Params → ℕ → ℕ → List Element → List ℕ → Type 0
 ElementsExist p R S es last = (i : ℕ) × (roundId (p .«set_size») (startHash R S) ≡ some i) × Grows p R (startHash R S) i es last
 
--- "An existing chain passes when it has exactly proof_size places and `sample_bernoulli` of SHA-256("Telescope-proof_hash", last hash)
--- with q says yes."
+-- 01, Search, passing: the chain exists, is of full length, and its last hash is told yes
 abbrev pub ElementsPass : Params → ℕ → ℕ → List Element → Type 0
 ElementsPass p R S es =
     (length es ≡ p .«proof_size») × ((last : List ℕ) × ElementsExist p R S es last × (saysYes (p .q) last ≡ true))
@@ -38,11 +37,11 @@ pub record Try : Type 0 where
   pub kept : List Element
   pub retry : ℕ
 
--- "Kept elements are the first 2 × set_size of the list."
+-- 01, Search, kept elements: the list up to 2 × set_size
 abbrev pub tryOf : Params → List Element → ℕ → Try
 tryOf p es R = record { settings = p; kept = take (2 * p .«set_size») es; retry = R }
 
--- "A chain is R, S and a list of at most proof_size kept places, repeats allowed; in a search S is below search_width." R is the try's;
+-- 01, Search, a chain: its S and its places, among which one may come again; `Exists` has their limits. R is the try's;
 -- the hash of the last round, which they determine where the chain exists, is kept beside them
 pub record Chain : Type 0 where
   pub search : ℕ
@@ -63,12 +62,12 @@ pub record Passes (T : Try) (c : Chain) : Type 0 where
   pub exactly : length (c .places) ≡ T .settings .«proof_size»
   pub yes : saysYes (T .settings .q) (c .last) ≡ true
 
--- "a chain before its extensions, extensions by ascending place, each with all that grows from it before the next"
+-- 01, Search, the order of places: what another begins with is before it; else the first place that differs tells
 unfoldable pub PlacesBefore : List ℕ → List ℕ → Type 0
 PlacesBefore xs [] = ⊥
 PlacesBefore [] (y ∷ ys) = Unit {0}
 PlacesBefore (x ∷ xs) (y ∷ ys) = (x < y) ⊎ ((x ≡ y) × PlacesBefore xs ys)
 
--- "Order within a try: S ascending from 0 to search_width − 1, then" by places
+-- 01, Search, the order of a try's chains: by S, then by places
 abbrev pub Before : Chain → Chain → Type 0
 Before c d = (c .search < d .search) ⊎ ((c .search ≡ d .search) × PlacesBefore (c .places) (d .places))

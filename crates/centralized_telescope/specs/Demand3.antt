@@ -1,15 +1,18 @@
--- Demand 3: one claim about prove and verify together. The words first, then the claim, a field for each of its sentences, over the
+-- Demand 3, on prove and verify at once. The words first, then the claim, one field or more for each of its sentences, over the
 -- definitions that the contracts of `prove` (specs/Prover) and `verify` (specs/Verifier) equate their results with.
 use mathlib.Core.Path.{_≡_}
+use mathlib.Core.Bool.{false}
 use mathlib.Core.Logic.{_⊎_, _↔_}
-use mathlib.Core.List.{List, _++_, map, List·Memᴰ}
+use mathlib.Core.List.{List, [], _∷_, _++_, map, List·Memᴰ}
 use Prim.Native.Nat.{ℕ, zero, suc, _+_, _*_, _≤_, _<_, min}
-use lib.ListN.{length, take, drop}
+use lib.IntN.{negsuc}
+use lib.Ieee.{fin}
+use lib.ListN.{length, take, drop, replicate}
 use Rattle.centralized_telescope.specs.declared.params.Params.{Params}
 use Rattle.centralized_telescope.specs.Params.{checked}
 use Rattle.centralized_telescope.specs.Elements.{Element, elements, elementAt, listCheck}
 use Rattle.centralized_telescope.specs.Lists.{Pairwise}
-use Rattle.centralized_telescope.specs.Chains.{Try, tryOf, Chain, Exists, Passes, Before, ElementsPass}
+use Rattle.centralized_telescope.specs.Chains.{Try, tryOf, Chain, elementsOf, Exists, Passes, Before, ElementsPass}
 use Rattle.centralized_telescope.specs.Prover.{Proved, proved}
 use Rattle.centralized_telescope.specs.Verifier.{verdict}
 
@@ -23,12 +26,12 @@ Number Kind k = (cs : List Chain) × Pairwise Before cs × ((c : Chain) → List
 abbrev pub UpTo : Chain → Chain → Type 0
 UpTo c d = (c ≡ d) ⊎ Before c d
 
--- the "first passing chain in 01's search order" of a try
+-- a try's first chain that passes, in the search's order
 pub record FirstPassing (T : Try) (c : Chain) : Type 0 where
   pub passes : Passes T c
   pub first : (d : Chain) → Passes T d → UpTo c d
 
--- a "passing chain within the step bound": "it is among the try's first dfs_bound existing ones"
+-- a chain that passes within the step bound: the nth that exists, with n at most dfs_bound
 pub record WithinBound (T : Try) (c : Chain) : Type 0 where
   pub passes : Passes T c
   pub nth : ℕ
@@ -38,7 +41,7 @@ pub record WithinBound (T : Try) (c : Chain) : Type 0 where
 abbrev pub HasProof : Try → Type 0
 HasProof T = (c : Chain) × WithinBound T c
 
--- of a "try's existing chains up to and including the first that passes (all, if none does)"
+-- what K counts: an existing chain that no passing one comes before
 abbrev pub UpToPassing : Try → Chain → Type 0
 UpToPassing T c = Exists T c × ((d : Chain) → Passes T d → UpTo c d)
 
@@ -47,11 +50,15 @@ unfoldable pub sumUpTo : ℕ → (ℕ → ℕ) → ℕ
 sumUpTo zero f = 0
 sumUpTo (suc m) f = sumUpTo m f + f (suc m)
 
--- ---- "any settings within 01's limits, any accepted list of at least set-size elements and enough workspace, whatever it holds"
+-- a list is accepted where the table has neither 4 nor 5 for it
+abbrev pub Accepted : List ℕ → List ℕ → List ℕ → List ℕ → Type 0
+Accepted bytes ends marks indexes = listCheck bytes ends marks indexes ≡ 0
+
+-- ---- the premise: lawful settings, an accepted list with set_size elements or more, and workspace long enough, with anything in it
 
 pub record Served (p : Params) (bytes ends marks indexes places table : List ℕ) : Type 0 where
   pub settings : checked p .0 ≡ 0
-  pub list : listCheck bytes ends marks indexes ≡ 0
+  pub list : Accepted bytes ends marks indexes
   pub at-least : p .«set_size» ≤ length ends
   pub places-enough : p .«proof_size» ≤ length places
   pub table-enough : 3 * p .«set_size» + 1 ≤ length table
@@ -59,69 +66,110 @@ pub record Served (p : Params) (bytes ends marks indexes places table : List ℕ
 -- ---- the prover's sentences, r being its answer to a list of elements, with `places` lent
 
 pub record OfProver (p : Params) (es : List Element) (places : List ℕ) (r : Proved) : Type 0 where
-  -- "Tries run from retry counter 1 up to the retry limit and end with the first that has a passing chain within the step bound."
+  -- the tries: R = 1 to `made`
   pub made : ℕ
+  -- they don't go past the retry limit
   pub up-to-the-limit : made ≤ p .«max_retries»
+  -- none but the last has a passing chain within the step bound
   pub none-before : (R : ℕ) → 1 ≤ R → R < made → HasProof (tryOf p es R) → ⊥
+  -- the last is at the limit, or has such a chain
   pub end : (made ≡ p .«max_retries») ⊎ ((1 ≤ made) × HasProof (tryOf p es made))
-  -- "The prover returns a proof exactly when there is such a try: the counters and places of its first passing chain in 01's search order."
+  -- a proof is returned exactly when one of the tries from 1 to the limit has such a chain
   pub proof-when : (r .number ≡ 0) ↔ ((R : ℕ) × (1 ≤ R) × (R ≤ p .«max_retries») × HasProof (tryOf p es R))
+  -- the proof is the last try's first passing chain: R, S, and its places over the first ones lent
   pub proof-is : r .number ≡ 0
       → (c : Chain)
       × FirstPassing (tryOf p es made) c
       × (r .retry ≡ made)
       × (r .search ≡ c .search)
       × (r .places ≡ c .places ++ drop (length (c .places)) places)
-  -- "The count in its result is the sum, over the tries made, of the smaller of the step bound and the number of that try's existing chains
-  -- up to and including the first that passes (all, if none does)."
+  -- K of a try made: how many chains exist in it, none counted that comes after a passing one
   pub K : ℕ → ℕ
   pub K-is : (R : ℕ) → 1 ≤ R → R ≤ made → Number (UpToPassing (tryOf p es R)) (K R)
+  -- the result's count: K of each try made, or the step bound where that is smaller, added up
   pub count-is : r .count ≡ sumUpTo made (λ (R : ℕ). min (K R) (p .«dfs_bound»))
-  -- "Without a proof all tries were made, and the prover says NotFound exactly when the count is below the step bound, else
-  -- NotFoundInBounds."
+  -- without a proof the tries went up to the limit
   pub all-made : (r .number ≡ 0 → ⊥) → made ≡ p .«max_retries»
+  -- without a proof it is NotFound where the count is below the step bound
   pub not-found : (r .number ≡ 0 → ⊥) → r .count < p .«dfs_bound» → r .number ≡ 12
+  -- and NotFoundInBounds where it isn't
   pub not-in-bounds : (r .number ≡ 0 → ⊥) → p .«dfs_bound» ≤ r .count → r .number ≡ 11
-  -- "After NotFound no chain of the kept elements passes under any retry counter from 1 to the limit and any search counter below the width."
+  -- after NotFound: in no try from 1 to the limit, and at no S below the width, does a chain of kept elements pass
   pub none-passes : r .number ≡ 12 → (R : ℕ) → 1 ≤ R → R ≤ p .«max_retries» → (c : Chain) → Passes (tryOf p es R) c → ⊥
 
 -- ---- the verifier's sentences
 
--- "On any proof the verifier's verdict is 01's", v being its verdict
-pub record OfVerifier (p : Params) (R S : ℕ) (es : List Element) (v : ℕ) : Type 0 where
-  pub length-differs : (v ≡ 20) ↔ (length es ≡ p .«proof_size» → ⊥)
-  pub counters-out : (v ≡ 21) ↔ ((length es ≡ p .«proof_size») × ((p .«search_width» ≤ S) ⊎ (p .«max_retries» ≤ R)))
+-- on any proof, v being the verdict on the counters R and S and a list: each number of the table exactly where its line is the first met
+pub record OfVerifier (p : Params) (R S : ℕ) (bytes ends marks indexes : List ℕ) (v : ℕ) : Type 0 where
+  pub malformed : (v ≡ 4) ↔ (listCheck bytes ends marks indexes ≡ 4)
+  pub too-large : (v ≡ 5) ↔ (listCheck bytes ends marks indexes ≡ 5)
+  pub length-differs : (v ≡ 20) ↔ (Accepted bytes ends marks indexes × (length (elements bytes ends marks indexes) ≡ p .«proof_size» → ⊥))
+  pub counters-out : (v ≡ 21)
+      ↔ (Accepted bytes ends marks indexes
+      × (length (elements bytes ends marks indexes) ≡ p .«proof_size»)
+      × ((p .«search_width» ≤ S) ⊎ (p .«max_retries» ≤ R)))
   pub fails : (v ≡ 22)
-      ↔ ((length es ≡ p .«proof_size») × (S < p .«search_width») × (R < p .«max_retries») × (ElementsPass p R S es → ⊥))
-  pub accepts : (v ≡ 0) ↔ ((S < p .«search_width») × (R < p .«max_retries») × ElementsPass p R S es)
+      ↔ (Accepted bytes ends marks indexes
+      × (length (elements bytes ends marks indexes) ≡ p .«proof_size»)
+      × (S < p .«search_width»)
+      × (R < p .«max_retries»)
+      × (ElementsPass p R S (elements bytes ends marks indexes) → ⊥))
+  pub accepts : (v ≡ 0)
+      ↔ (Accepted bytes ends marks indexes
+      × (S < p .«search_width»)
+      × (R < p .«max_retries»)
+      × ElementsPass p R S (elements bytes ends marks indexes))
 
--- "given the prover's proof and the same settings, it accepts exactly when the proof's retry counter is below the retry limit, else says
--- InvalidParameters", v being its verdict on the prover's proof r
+-- on the prover's proof r, v being the verdict under the settings of the search
 pub record OnTheProof (p : Params) (r : Proved) (v : ℕ) : Type 0 where
+  -- it is accepted exactly when its R is below the retry limit
   pub accepts : (v ≡ 0) ↔ (r .retry < p .«max_retries»)
+  -- otherwise it is InvalidParameters
   pub else-counters : p .«max_retries» ≤ r .retry → v ≡ 21
 
 -- the elements at the prover's places
 abbrev pub proofElements : Params → List Element → Proved → List Element
 proofElements p es r = map (elementAt es) (take (p .«proof_size») (r .places))
 
+-- some elements as a list that is accepted
+pub record Listed (es : List Element) : Type 0 where
+  pub bytes : List ℕ
+  pub ends : List ℕ
+  pub marks : List ℕ
+  pub indexes : List ℕ
+  pub accepted : Accepted bytes ends marks indexes
+  pub same : elements bytes ends marks indexes ≡ es
+
 -- ---- the claim
 
 pub record Demand3 (p : Params) (bytes ends marks indexes places table : List ℕ) : Type 0 where
   pub of-prover : OfProver p (elements bytes ends marks indexes) places (proved p bytes ends marks indexes places table)
-  -- of any proof: any counters and any accepted list
-  pub of-verifier : (R S : ℕ) (bytes′ ends′ marks′ indexes′ : List ℕ) → listCheck bytes′ ends′ marks′ indexes′ ≡ 0
-      → OfVerifier p R S (elements bytes′ ends′ marks′ indexes′) (verdict p R S bytes′ ends′ marks′ indexes′)
-  -- of the prover's proof: its counters and any accepted list of the elements at its places
+  -- of any proof: any counters and any list
+  pub of-verifier : (R S : ℕ) (bytes′ ends′ marks′ indexes′ : List ℕ)
+      → OfVerifier p R S bytes′ ends′ marks′ indexes′ (verdict p R S bytes′ ends′ marks′ indexes′)
+  -- of the prover's proof: the elements at its places are the chain's, and there is an accepted list of them
+  pub of-chain : (n : proved p bytes ends marks indexes places table .number ≡ 0)
+      → proofElements p (elements bytes ends marks indexes) (proved p bytes ends marks indexes places table)
+      ≡ elementsOf (tryOf p (elements bytes ends marks indexes) (of-prover .made)) (of-prover .proof-is n .0)
+  pub listed : proved p bytes ends marks indexes places table .number ≡ 0
+      → Listed (proofElements p (elements bytes ends marks indexes) (proved p bytes ends marks indexes places table))
+  -- and on its counters and any such list the verdict is so
   pub on-the-proof : proved p bytes ends marks indexes places table .number ≡ 0
-      → (bytes′ ends′ marks′ indexes′ : List ℕ)
-      → listCheck bytes′ ends′ marks′ indexes′ ≡ 0
-      → elements bytes′ ends′ marks′ indexes′
-      ≡ proofElements p (elements bytes ends marks indexes) (proved p bytes ends marks indexes places table)
+      → (l : Listed (proofElements p (elements bytes ends marks indexes) (proved p bytes ends marks indexes places table)))
       → OnTheProof p (proved p bytes ends marks indexes places table)
-      (verdict p (proved p bytes ends marks indexes places table .retry) (proved p bytes ends marks indexes places table .search) bytes′ ends′ marks′ indexes′)
+      (verdict p (proved p bytes ends marks indexes places table .retry) (proved p bytes ends marks indexes places table .search) (l .bytes) (l .ends) (l .marks) (l .indexes))
 
 abbrev pub demand3 : Type 0
 demand3 =
     (p : Params) (bytes ends marks indexes places table : List ℕ) → Served p bytes ends marks indexes places table
     → Demand3 p bytes ends marks indexes places table
+
+-- ---- that there are such settings, lists and workspace: two elements, "a" without an index and "bc" with the index 7
+
+abbrev pub exampleSettings : Params
+exampleSettings =
+    record { «set_size» = 2; «proof_size» = 3; «max_retries» = 4; «search_width» = 5; «dfs_bound» = 600; q = fin false 1 (negsuc 0) }
+
+abbrev pub servedExample : Type 0
+servedExample =
+    Served exampleSettings (97 ∷ 98 ∷ 99 ∷ []) (1 ∷ 3 ∷ []) (0 ∷ 1 ∷ []) (0 ∷ 7 ∷ []) (replicate 3 0) (replicate 7 0)

@@ -1,4 +1,4 @@
--- Document 01, Distinctness: "Yes exactly when no two places have equal data bytes; indexes aren't looked at."
+-- Document 01, Distinctness: whether each element of a list has data of its own, whatever the indexes.
 use mathlib.Core.Path.{_≡_}
 use mathlib.Core.Bool.{Bool, true, false, cond, not, _&&_}
 use mathlib.Core.List.{List, [], _∷_}
@@ -9,7 +9,7 @@ use Rattle.centralized_telescope.specs.Elements.{Element, elements, elem
 use Rattle.centralized_telescope.specs.declared.misc.Distinctness.{Distinctness}
 use Rattle.centralized_telescope.specs.declared.misc.Distinctness.the-variants as is
 
--- "no two places have equal data bytes"
+-- at any two places the data differ
 abbrev pub Distinct : List Element → Type 0
 Distinct es = (i j : ℕ) → i < j → j < length es → elementAt es i .bytes ≡ elementAt es j .bytes → ⊥
 

@@ -1,4 +1,4 @@
--- Laws of distinctness: the yes or no is yes exactly when no two places have equal data bytes.
+-- Laws of distinctness: the yes or no is yes exactly for a list that is distinct.
 use mathlib.Core.Path.{_≡_, refl}
 use mathlib.Core.Bool.{Bool, true, false, not}
 use mathlib.Core.List.{List, [], _∷_}

@@ -10,7 +10,7 @@ use Rattle.centralized_telescope.specs.Lists.{someOf}
 use Rattle.centralized_telescope.specs.declared.types.ListCheck.{ListCheck}
 use Rattle.centralized_telescope.specs.declared.types.ListCheck.the-variants as check
 
--- ---- "An element is data bytes and perhaps an index (u64)."
+-- ---- 01, Elements: data bytes, with an index or without
 
 pub record Element : Type 0 where
   pub bytes : List ℕ
@@ -25,7 +25,7 @@ abbrev pub numberOf : Option ℕ → ℕ
 numberOf none = 0
 numberOf (some n) = n
 
--- "Tail(e) is the data followed, if the mark is 1, by the index in 8 big-endian bytes."
+-- 01, Elements, Tail: the data, and behind it the index, if there is one, in 8 bytes
 abbrev pub indexBytes : Option ℕ → List ℕ
 indexBytes none = []
 indexBytes (some n) = bytesOf 8 n
@@ -33,8 +33,7 @@ indexBytes (some n) = bytesOf 8 n
 unfoldable pub tail : Element → List ℕ
 tail e = e .bytes ++ indexBytes (e .index)
 
--- ---- "A list is lent as data bytes, ends (u32: where each element's data stops, the first starting at 0), marks (a byte each: 0 no
--- index, 1 index) and indexes (u64, not read where the mark is 0)."
+-- ---- 01, Elements, a lent list: an element's data goes from the end before it (the first's from 0) to its own; with the mark 1 it has an index
 
 abbrev pub indexOf : ℕ → ℕ → Option ℕ
 indexOf mark n = cond (eqb mark 1) (some n) none
@@ -57,7 +56,7 @@ elementAt es place = getD es place (record { bytes = []; index = none })
 
 -- ---- one place of a lent list, as the code reads it: `ElementsLaws` ties it to `elementAt`
 
--- where the data of the element at a place starts: "the first starting at 0", each other at the end before it
+-- where the data of the element at a place starts: of the first at 0, of each other at the end before it
 unfoldable pub startAt : List ℕ → ℕ → ℕ
 startAt ends place = getD (0 ∷ ends) place 0
 
@@ -69,7 +68,7 @@ dataAt bytes ends place = take (getD ends place 0 - startAt ends place) (drop (s
 abbrev pub indexAt : List ℕ → List ℕ → ℕ → Option ℕ
 indexAt marks indexes place = indexOf (getD marks place 0) (getD indexes place 0)
 
--- ---- list, 4: "ends, marks, indexes differ in length; a mark over 1; an end that falls or passes the data"
+-- ---- 01, the table, list, 4: unequal lengths, a mark above 1, an end below the one before or past the data
 
 abbrev pub markOver : List ℕ → Bool
 markOver marks = someOf (ltb 1) marks
@@ -83,7 +82,7 @@ unfoldable pub malformed : List ℕ → List ℕ → List ℕ → List ℕ → B
 malformed bytes ends marks indexes =
     not (eqb (length ends) (length marks)) || (not (eqb (length ends) (length indexes)) || (markOver marks || endWrong 0 (length bytes) ends))
 
--- ---- list, 5: "over 65,536 elements, or over 4,096 data bytes in one"
+-- ---- 01, the table, list, 5: too many elements, or one too long
 
 unfoldable pub dataLong : ℕ → List ℕ → Bool
 dataLong from [] = false

@@ -21,7 +21,17 @@ unrefused true b e = absurd (omega arith)
 unrefused false true e = absurd (omega arith)
 unrefused false false e = (refl, refl)
 
-pub record Accepted (d n m x : List ℕ) : Type 0 where
+-- the check's number is one of the table's
+pub check-range : (d n m x : List ℕ) → listCheck d n m x < 6
+unfolding listCheck
+check-range d n m x = go (malformed d n m x) (tooLarge n)
+  where
+    go : (a b : Bool) → cond a 4 (cond b 5 0) < 6
+    go true b = omega arith
+    go false true = omega arith
+    go false false = omega arith
+
+pub record NoFault (d n m x : List ℕ) : Type 0 where
   pub marks : length n ≡ length m
   pub indexes : length n ≡ length x
   pub marked : markOver m ≡ false
@@ -29,7 +39,7 @@ pub record Accepted (d n m x : List ℕ) : Type 0 where
   pub few : length n ≤ 65536
   pub short : dataLong 0 n ≡ false
 
-pub accepted : (d n m x : List ℕ) → listCheck d n m x ≡ 0 → Accepted d n m x
+pub accepted : (d n m x : List ℕ) → listCheck d n m x ≡ 0 → NoFault d n m x
 unfolding listCheck malformed tooLarge
 accepted d n m x e =
     let r = unrefused (malformed d n m x) (tooLarge n) e in

@@ -1,4 +1,4 @@
--- The exported verifier of document 01, "Lent and given back": settings one by one, ends and indexes in bytes.
+-- Document 01, Lent and given back, the exported verifier: settings one by one, ends and indexes in bytes.
 use mathlib.Core.Bool.{Bool, cond, _&&_}
 use mathlib.Core.List.{List, [], _∷_}
 use Prim.Native.Nat.{ℕ, zero, suc, _/_, _%_}
@@ -11,7 +11,7 @@ use Rattle.centralized_telescope.specs.Lists.{firstNumber}
 use Rattle.centralized_telescope.specs.Params.{checked}
 use Rattle.centralized_telescope.specs.Verifier.{verdict}
 
--- "There settings are passed one by one"
+-- the settings, each an argument
 abbrev pub settingsOf : ℕ → ℕ → ℕ → ℕ → ℕ → Float → Params
 settingsOf size proof retries width bound q = record {
   «set_size» = size;
@@ -27,14 +27,14 @@ unfoldable pub numbersIn : ℕ → ℕ → List ℕ → List ℕ
 numbersIn zero k bytes = []
 numbersIn (suc n) k bytes = bigEndian k bytes ∷ numbersIn n k (drop k bytes)
 
--- "ends and indexes are byte slices too, 4 and 8 big-endian bytes to the number": the numbers that k bytes each stand for
+-- the numbers that lent bytes stand for, k bytes each: 4 for ends, 8 for indexes
 abbrev pub numbersOf : ℕ → List ℕ → List ℕ
 numbersOf k bytes = numbersIn (length bytes / k) k bytes
 
 abbrev pub isWholeCount : ℕ → List ℕ → Bool
 isWholeCount k bytes = eqb (length bytes % k) 0
 
--- the verdict on those numbers; "a length that isn't a whole count of numbers is refusal 4", which the settings' refusals precede
+-- the verdict on those numbers; bytes that are left over make it refusal 4, which the settings' refusals precede
 unfoldable pub exportedVerdict : Params → ℕ → ℕ → List ℕ → List ℕ → List ℕ → List ℕ → ℕ
 exportedVerdict p R S bytes ends marks indexes =
     cond (isWholeCount 4 ends && isWholeCount 8 indexes)

@@ -5,7 +5,6 @@ pub mod ListsLaws
 pub mod Params
 pub mod ParamsLaws
 pub mod SmallCaseLaws
-pub mod ParamsCases
 pub mod Elements
 pub mod ElementsLaws
 pub mod Rounds
@@ -23,12 +22,11 @@ pub mod WalkLaws
 pub mod Visit
 pub mod Prover
 pub mod OneBinLaws
-pub mod SearchCases
-pub mod AllCases
 pub mod Verifier
 pub mod VerifierLaws
 pub mod Exports
 pub mod Demand3
+pub mod AllCases
 pub mod WrittenOut
 pub mod WrittenOutLaws
 pub mod Distinct

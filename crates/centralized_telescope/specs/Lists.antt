@@ -35,7 +35,7 @@ upToFirst test (x ∷ xs) = cond (test x) 1 (1 + upToFirst test xs)
 abbrev pub over : List ℕ → List ℕ → List ℕ
 over xs lent = xs ++ drop (length xs) lent
 
--- "Each call meets its lines from the top.": the first number that isn't 0, or 0 where all are
+-- 01, the order of the table: the first number that isn't 0, or 0 where all are
 unfoldable pub firstNumber : List ℕ → ℕ
 firstNumber [] = 0
 firstNumber (k ∷ ks) = cond (eqb k 0) (firstNumber ks) k

@@ -1,4 +1,4 @@
--- The settings of document 01, their limits and the small case's, in its words: what the contracts of `params` cite.
+-- The settings of document 01, their limits, and those of the small case: what the contracts of `params` cite.
 use mathlib.Core.Bool.{Bool, false, cond, _||_}
 use Prim.Native.Nat.{ℕ, _+_, _-_, _*_, _/_, _%_, _^_}
 use lib.IntN.{pos}
@@ -14,23 +14,21 @@ use Rattle.centralized_telescope.specs.declared.params.SmallCase.the-var
 
 -- ---- the check of the settings
 
--- n is "not 1 to" hi
+-- n isn't 1 to hi
 unfoldable pub notOneTo : ℕ → ℕ → Bool
 notOneTo hi n = ltb n 1 || ltb hi n
 
--- 01, Lent and given back, refusal 1: "set_size out of range". The range: "set_size 1 to 32,768"
+-- 01, Lent and given back, refusal 1: set_size is 0 or over 32,768
 abbrev pub setSizeOut : ℕ → Bool
 setSizeOut n = notOneTo 32768 n
 
--- 01, Lent and given back, refusal 2: "another whole-number limit broken". The limits: "proof_size 0 to 1,024;
--- max_retries 0 to 65,535; search_width 0 to 2^32 − 1; dfs_bound 0 to 2^48"
+-- 01, Lent and given back, refusal 2: another of the whole numbers is over its limit. All may be 0
 unfoldable pub limitBroken : Params → Bool
 limitBroken p =
     ltb 1024 (p .«proof_size»)
     || (ltb 65535 (p .«max_retries») || (ltb (2 ^ 32 - 1) (p .«search_width») || ltb (2 ^ 48) (p .«dfs_bound»)))
 
--- 01, Lent and given back: "Each call meets its lines from the top." The number of the first refusal, or 0 with X of q.
--- Refusal 3, "q below 0, above 1 or NaN", is the sampler's
+-- 01, Lent and given back, the order of the table: the number of the first refusal, or 0 with X of q. Refusal 3 is the sampler's
 unfoldable pub checked : Params → ℕ × ℕ
 checked p = cond (setSizeOut (p .«set_size»)) (1, 0) (cond (limitBroken p) (2, 0) (thresholdOrRefusal (p .q)))
 
@@ -41,7 +39,7 @@ checkedNumber check.SetSizeRefused = (1, 0)
 checkedNumber check.LimitRefused = (2, 0)
 checkedNumber check.ProbabilityRefused = (3, 0)
 
--- ---- doubles. "Each operation rounds once": IEEE 754-2019, 5.4.1, to the nearest, ties to even
+-- ---- doubles. Each result is rounded: IEEE 754-2019, 5.4.1, to the nearest, ties to even
 
 infixl 20 _⊕_
 infixl 30 _⊗_
@@ -59,7 +57,7 @@ _⊘_ x y = div binary64 x y
 unfoldable pub whole : ℕ → Float
 whole n = ofInt binary64 (pos n)
 
--- 01, Small-case settings: "L is the double nearest 2.48490664978800031023"
+-- 01, Small-case settings, L: its decimals of ln 12, rounded to a double
 unfoldable pub L : Float
 L = round binary64 false 248490664978800031023 (10 ^ 20)
 
@@ -77,25 +75,25 @@ ceil (fin s m e) = cond (eqb (m * up e % down e) 0) (m * up e / down e) (m * up 
 
 -- ---- the small case
 
--- 01, Small-case settings: "(32 × L) × u", and "search_width = d = ceil" of it
+-- 01, Small-case settings, d: what is rounded up, and search_width, the result
 unfoldable pub beforeCeil : ℕ → Float
 beforeCeil u = (whole 32 ⊗ L) ⊗ whole u
 
 unfoldable pub searchWidth : ℕ → ℕ
 searchWidth u = ceil (beforeCeil u)
 
--- 01, Small-case settings: "q = (2 × L) × (1 / d)"
+-- 01, Small-case settings, q: by L and d
 unfoldable pub probability : ℕ → Float
 probability d = (whole 2 ⊗ L) ⊗ (whole 1 ⊘ whole d)
 
--- 01, Small-case settings: "((8 × (1 / L)) × (u + 1)) × d", and "dfs_bound = floor" of it
+-- 01, Small-case settings, dfs_bound: what is rounded down, and the result
 unfoldable pub beforeFloor : ℕ → ℕ → Float
 beforeFloor u d = ((whole 8 ⊗ (whole 1 ⊘ L)) ⊗ (whole u ⊕ whole 1)) ⊗ whole d
 
 unfoldable pub dfsBound : ℕ → ℕ → ℕ
 dfsBound u d = floor (beforeFloor u d)
 
--- 01, Small-case settings: "every setting but set_size, proof_size being u: max_retries = ceil(c)", and those above
+-- 01, Small-case settings, the answer: u itself, c rounded up, and those above; set_size is left to the caller
 unfoldable pub smallSettings : ℕ → Float → SmallSettings
 smallSettings u c = record {
   «proof_size» = u;
@@ -105,15 +103,15 @@ smallSettings u c = record {
   q = probability (searchWidth u);
 }
 
--- 01, Lent and given back: "A refusal's result holds its number and zeros"
+-- 01, Lent and given back, refusals: every setting is 0
 abbrev pub zeros : SmallSettings
 zeros = record { «proof_size» = 0; «max_retries» = 0; «search_width» = 0; «dfs_bound» = 0; q = fin false 0 (pos 0) }
 
--- 01, Lent and given back, refusal 30: "u not 1 to 1,024"
+-- 01, Lent and given back, refusal 30: u is out of range
 abbrev pub proofSizeOut : ℕ → Bool
 proofSizeOut u = notOneTo 1024 u
 
--- 01, Lent and given back, refusal 31: "c NaN, below 0 or above 65,535"
+-- 01, Lent and given back, refusal 31: c is no number from 0 to 65,535
 abbrev pub completenessOut : Float → Bool
 completenessOut c = outside 65535 c
 

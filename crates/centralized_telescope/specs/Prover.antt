@@ -1,4 +1,4 @@
--- Document 01, Search and 'Lent and given back': the prover's answer, and each lent buffer afterwards.
+-- Document 01, Search, and Lent and given back: the prover's answer, and the lent buffers afterwards.
 use mathlib.Core.Bool.{Bool, cond, _||_}
 use mathlib.Core.List.{List, [], _∷_}
 use mathlib.Core.Option.{Option, none, some}
@@ -24,17 +24,17 @@ pub record Proved : Type 0 where
   pub places : List ℕ
   pub table : List ℕ
 
--- "A refusal's result holds its number and zeros"; "1 to 10 leave the bin table too."
+-- 01, Lent and given back, 1 to 10: the number, zeros, and both buffers as they were
 abbrev pub refused : ℕ → List ℕ → List ℕ → Proved
 refused k places table = record { number = k; retry = 0; search = 0; count = 0; places = places; table = table }
 
--- "The bin table then holds the last try made"; "With max_retries 0 it is untouched."
+-- 01, Lent and given back: the last try's bin table, or without a try the lent one
 unfoldable pub tableAfter : Params → List Element → ℕ → List ℕ → List ℕ
 tableAfter p es zero table = table
 tableAfter p es (suc R) table = binTable (p .«set_size») (binsOf (tryOf p es (suc R))) table
 
--- "Success gives R, S and the step count in the result and writes the chain's places into the first proof_size numbers, no further."
--- "If none found: NotFoundInBounds when that sum is at least dfs_bound, else NotFound": 11 and 12 carry the count and leave places
+-- 01, Lent and given back: with a chain its counters and the count, and its places over the first ones lent. 01, Search: without one
+-- 11 for a count from dfs_bound on, 12 for a lower one, with the count, and places as they were
 unfoldable pub answered : Params → Option Chain → ℕ → ℕ → List ℕ → List ℕ → Proved
 answered p (some c) R count places table = record {
   number = 0;
@@ -58,11 +58,11 @@ unfoldable pub served : Params → List Element → List ℕ → List ℕ → Pr
 served p es places table =
     answered p (searched p es .proof) (searched p es .made) (searched p es .count) places (tableAfter p es (searched p es .made) table)
 
--- prover, 6: "either workspace too short"
+-- prover, 6: places or table too short
 abbrev pub workspaceShort : Params → List ℕ → List ℕ → Bool
 workspaceShort p places table = ltb (length places) (p .«proof_size») || ltb (length table) (3 * p .«set_size» + 1)
 
--- the first refusal in the table's order, or 0. Prover, 10: "fewer elements than set_size (NotEnoughElements)"
+-- the first refusal in the table's order, or 0. Prover, 10, NotEnoughElements: the list is below set_size
 unfoldable pub proverRefusal : Params → List ℕ → List ℕ → List ℕ → List ℕ → List ℕ → List ℕ → ℕ
 proverRefusal p bytes ends marks indexes places table =
     firstNumber

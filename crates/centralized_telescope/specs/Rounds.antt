@@ -13,7 +13,7 @@ use Rattle.centralized_telescope.specs.Elements.{Element, tail}
 use Rattle.centralized_telescope.specs.declared.round.Id.{Id}
 use Rattle.centralized_telescope.specs.declared.round.Id.the-variants as id
 
--- ---- "Labels are ASCII, with no length or zero byte."
+-- ---- 01, Rounds, labels: their ASCII bytes alone
 
 -- Telescope-round_hash
 unfoldable pub roundLabel : List ℕ
@@ -27,34 +27,34 @@ binLabel = 84 ∷ 101 ∷ 108 ∷ 101 ∷ 115 ∷ 99 ∷ 111 ∷ 112 ∷ 101 ∷
 unfoldable pub proofLabel : List ℕ
 proofLabel = 84 ∷ 101 ∷ 108 ∷ 101 ∷ 115 ∷ 99 ∷ 111 ∷ 112 ∷ 101 ∷ 45 ∷ 112 ∷ 114 ∷ 111 ∷ 111 ∷ 102 ∷ 95 ∷ 104 ∷ 97 ∷ 115 ∷ 104 ∷ []
 
--- ---- "R is the retry counter and S the search counter, both u64, written as 8 big-endian bytes in hashes."
+-- ---- 01, Rounds, the hashes: both begin with the label of rounds; a counter takes 8 big-endian bytes
 
--- "Start hash: SHA-256("Telescope-round_hash", R, S)."
+-- the start hash: of the two counters
 unfoldable pub startHash : ℕ → ℕ → List ℕ
 startHash R S = sha256 (roundLabel ++ (bytesOf 8 R ++ bytesOf 8 S))
 
--- "Next hash: SHA-256("Telescope-round_hash", hash, Tail(e))."
+-- the next hash: of the hash before and an element's Tail
 unfoldable pub nextHash : List ℕ → Element → List ℕ
 nextHash h e = sha256 (roundLabel ++ (h ++ tail e))
 
 -- ---- what is drawn
 
--- the number that `sample_uniform` draws below n from a digest's first 16 bytes ("every sampled digest is cut so"), if it draws one
+-- the number that `sample_uniform` draws below n, if it draws one; of a digest it is always lent the first 16 bytes
 abbrev pub drawn : ℕ × ℕ → Option ℕ
 drawn a = cond (eqb (a .0) 0) (some (a .1)) none
 
 unfoldable pub drawnBelow : ℕ → List ℕ → Option ℕ
 drawnBelow n h = drawn (uniform (take 16 h) n)
 
--- "A round's id is `sample_uniform` of its hash's first 16 bytes .. with n = set_size; without a draw the round doesn't exist."
+-- 01, Rounds, the id of a round, drawn from its hash below n, which is set_size; none: there is no such round
 abbrev pub roundId : ℕ → List ℕ → Option ℕ
 roundId n h = drawnBelow n h
 
--- Search: "An element's bin is `sample_uniform` of SHA-256("Telescope-bin_hash", R, Tail(e)); without a draw it is in none."
+-- 01, Search, the bin of an element, drawn from the hash of R and its Tail; none: it is in no bin
 unfoldable pub binOf : ℕ → ℕ → Element → Option ℕ
 binOf n R e = drawnBelow n (sha256 (binLabel ++ (bytesOf 8 R ++ tail e)))
 
--- Search: "`sample_bernoulli` of SHA-256("Telescope-proof_hash", last hash) with q says yes"
+-- 01, Search, passing: the yes or no with q, from the hash of a last hash
 unfoldable pub saysYes : Float → List ℕ → Bool
 saysYes q h = eqb (bernoulli (take 16 (sha256 (proofLabel ++ h))) q) 1
 

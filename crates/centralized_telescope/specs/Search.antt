@@ -27,7 +27,7 @@ unfoldable pub placesIn : Try → ℕ → List ℕ
 placesIn T i = placesOf (binsOf T) i
 
 module _ (T : Try) where
-  -- ---- "a chain before its extensions, extensions by ascending place, each with all that grows from it before the next"
+  -- ---- 01, Search, the order from a round on: the chain up to it, then place by place whatever begins with that place
 
   -- the hash of the round that the element at a place makes after one with the hash h
   abbrev pub nextAt : List ℕ → ℕ → List ℕ
@@ -55,7 +55,7 @@ module _ (T : Try) where
   unfoldable pub chainsAt : ℕ → List Chain
   chainsAt S = grown (chains S (T .settings .«proof_size»)) (idOf (startHash (T .retry) S)) (startHash (T .retry) S) []
 
-  -- ---- "S ascending from 0 to search_width − 1"
+  -- ---- 01, Search, the order: S upwards
 
   -- those of w search counters from S on
   unfoldable pub chainsFrom : ℕ → ℕ → List Chain
@@ -71,15 +71,15 @@ module _ (T : Try) where
 
   -- ---- what is read off the list
 
-  -- "Let K be the number of existing chains up to and including the first that passes, or of all if none does."
+  -- 01, Search, K: how many chains exist, none counted behind the first that passes
   abbrev pub K : ℕ
   K = upToFirst passing existing
 
-  -- "The try's count is the smaller of K and dfs_bound;"
+  -- 01, Search, a try's count: K, or a smaller dfs_bound
   unfoldable pub tryCount : ℕ
   tryCount = min K (T .settings .«dfs_bound»)
 
-  -- "it finds that first chain exactly when one passes and K ≤ dfs_bound."
+  -- 01, Search, a try's find: the first that passes, if K ≤ dfs_bound
   unfoldable pub tryFinds : Option Chain
   tryFinds = cond (leb K (T .settings .«dfs_bound»)) (firstOf passing existing) none
 
@@ -91,18 +91,18 @@ pub record Searched : Type 0 where
   pub count : ℕ
   pub proof : Option Chain
 
--- "Tries .. end with the first that finds."
+-- 01, Search: a find ends the tries
 unfoldable pub unlessFound : Option Chain → ℕ → ℕ → Searched → Searched
 unlessFound (some c) R count later = record { made = R; count = count; proof = some c }
 unlessFound none R count later = later
 
--- w tries after that of the retry counter R, whose counts came to `sum`: "The step count is the sum over the tries made."
+-- w tries after that of the retry counter R, up to which the counts came to `sum`: each try made adds its own
 unfoldable pub triesFrom : Params → List Element → ℕ → ℕ → ℕ → Searched
 triesFrom p es zero R sum = record { made = R; count = sum; proof = none }
 triesFrom p es (suc w) R sum =
     unlessFound (tryFinds (tryOf p es (R + 1))) (R + 1) (sum + tryCount (tryOf p es (R + 1)))
     (triesFrom p es w (R + 1) (sum + tryCount (tryOf p es (R + 1))))
 
--- "Tries use R = 1, 2, .. max_retries"
+-- all tries: R from 1 to max_retries
 unfoldable pub searched : Params → List Element → Searched
 searched p es = triesFrom p es (p .«max_retries») 0 0

@@ -14,13 +14,13 @@ use Rattle.centralized_telescope.specs.Rounds.{startHash, nextHash, roun
 use Rattle.centralized_telescope.specs.declared.proof.Verdict.{Verdict}
 use Rattle.centralized_telescope.specs.declared.proof.Verdict.the-variants as answer
 
--- ---- the last hash of the chain that some elements make, "all of them in their order", if it exists
+-- ---- the last hash of the chain of a proof's elements, from the first to the last, if it exists
 
 unfoldable pub ifSome : {A : Type 0} → Option ℕ → (ℕ → Option A) → Option A
 ifSome none f = none
 ifSome (some i) f = f i
 
--- "each element's bin equals the id of the round before it"
+-- 01, Search, existence: there is a bin, and it is the id i
 abbrev pub isBin : Option ℕ → ℕ → Bool
 isBin none i = false
 isBin (some bin) i = eqb bin i
@@ -41,11 +41,11 @@ yesOn q (some h) = saysYes q h
 
 -- ---- the verdict
 
--- verifier, 21: "S ≥ search_width or R ≥ max_retries (InvalidParameters)"
+-- verifier, 21, InvalidParameters: a counter is at its limit or over
 abbrev pub countersOut : Params → ℕ → ℕ → Bool
 countersOut p R S = leb (p .«search_width») S || leb (p .«max_retries») R
 
--- "Length first, then the counters, then existence and passing of the chain that the proof's own elements make": 20, 21, 22, or 0
+-- 01, Verifier, the order: a wrong length is 20, a counter out of its limit 21, no chain that passes 22; else 0
 unfoldable pub judged : Params → ℕ → ℕ → List Element → ℕ
 judged p R S es =
     cond (eqb (length es) (p .«proof_size»)) (cond (countersOut p R S) 21 (cond (yesOn (p .q) (lastHash p R S es)) 0 22)) 20

@@ -1,5 +1,5 @@
--- Elements written out as a list in the form in which lists are lent (document 01, Verifier: "A proof is R, S and its elements as a list
--- in the form above; the prover's places are written out so"), and what `write_proof` answers and leaves in each lent buffer.
+-- Elements written out the way lists are lent, which document 01, Verifier, has a prover's proof be, and what `write_proof` answers and
+-- leaves in each lent buffer.
 use mathlib.Core.Bool.{Bool, cond, _||_}
 use mathlib.Core.List.{List, [], _∷_, _++_, map}
 use Prim.Native.Nat.{ℕ, _+_}
@@ -55,7 +55,7 @@ abbrev pub wrote : ℕ → List ℕ → List ℕ → List ℕ → List ℕ → W
 wrote len bytes ends marks indexes =
     record { number = 0; len = len; bytes = bytes; ends = ends; marks = marks; indexes = indexes }
 
--- "A refusal's result holds its number and zeros", and it alters nothing lent
+-- 01, Lent and given back, refusals: the number, a 0, and the buffers as lent
 abbrev pub unwritten : ℕ → List ℕ → List ℕ → List ℕ → List ℕ → WrittenOut
 unwritten k bytes ends marks indexes =
     record { number = k; len = 0; bytes = bytes; ends = ends; marks = marks; indexes = indexes }

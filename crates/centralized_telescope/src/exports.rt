@@ -26,7 +26,7 @@ use sampling::Words;
 
 // What the ends in bytes are found to be.
 pub struct EndsFound {
-    // one falls or passes the data
+    // one falls or is too high
     pub wrong: bool,
     // an element has over 4,096 data bytes
     pub long: bool,

@@ -8,6 +8,7 @@ mod proof;
 mod proof_list;
 mod round;
 mod telescope;
+mod theorems;
 mod types;
 
 pub use misc::Distinctness;
@@ -26,5 +27,8 @@ pub use round::RetryCounter;
 pub use round::SearchCounter;
 pub use telescope::prove;
 pub use telescope::verify;
+pub use theorems::all_cases;
+pub use theorems::demand_3;
+pub use theorems::served_example;
 pub use types::ListCheck;
 pub use types::check_list;

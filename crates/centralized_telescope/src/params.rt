@@ -108,7 +108,7 @@ fn ceil_of(x: f64) -> u64
     t
 }
 
-// Whether c is no completeness: a NaN, below 0 or above 65,535. Negative zero is zero.
+// Whether c is no completeness: no number from 0 to 65,535. -0.0 counts as 0.
 fn is_completeness_out(c: f64) -> bool
     ensures { λ r. ⌜ r ≡ completenessOut c ⌝ }
 {

@@ -253,7 +253,7 @@ pub enum ProofSearch {
     NotEnoughElements,
 }
 
-// The tries, R = 1, 2, .. max_retries, up to the first that finds.
+// The tries, R from 1 to max_retries, up to the first find.
 pub fn make_tries(
     p: Params,
     x: Words,
@@ -313,11 +313,11 @@ pub enum Verdict {
     IncorrectNumberElements,
     // a counter isn't below its limit
     InvalidParameters,
-    // the chain doesn't exist or doesn't pass
+    // the elements make no chain that passes
     InvalidProof,
 }
 
-// Whether the chain of an accepted list's elements, all of them in their order, exists and its last hash says yes.
+// Whether the chain of an accepted list's elements, from the first to the last, exists and its last hash says yes.
 fn chain_passes(
     p: Params,
     x: Words,
@@ -358,8 +358,8 @@ fn chain_passes(
     says_yes(h, x)
 }
 
-// The verdict on an accepted list under lawful settings, x being the threshold X of their q: the length first, then the counters,
-// then the chain.
+// The verdict on an accepted list under lawful settings, x being the threshold X of their q: by length, else by counters,
+// else by the chain.
 pub fn judge(
     p: Params,
     x: Words,

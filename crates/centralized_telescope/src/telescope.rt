@@ -67,8 +67,9 @@ fn prove_lawful(
     }
 }
 
-// Searches for a proof that the list holds at least set_size elements, in lent places and a lent bin table: the first line of the table
-// that it meets, or how the search ended.
+// Searches the list for a proof, in lent places and a lent bin table: the first line of the table that it meets, or how the search ended.
+// set_size is the size that the prover's set is taken to have. What a proof shows is a smaller bound, up to a chance that the settings give
+// (README.md, What green means). Equal elements aren't looked for: `check_distinct` does that.
 pub fn prove(
     p: Params,
     data: &[u8],

@@ -10,9 +10,9 @@ use sampling::eight_bytes;
 // What the check of a lent list answers.
 pub enum ListCheck {
     Accepted,
-    // ends, marks and indexes differ in length; a mark is over 1; an end falls or passes the data
+    // ends, marks and indexes of unequal lengths; a mark above 1; an end too low or too high
     Malformed,
-    // over 65,536 elements, or over 4,096 data bytes in one
+    // too many elements, or too much data in one
     TooLarge,
 }
 

@@ -4,7 +4,6 @@ mod Schedule
 mod Rounds
 mod Blocks
 mod Absorbing
-mod Padding
 mod Remainder
 mod PowerOfTwo
 mod TwoWords

@@ -5,8 +5,9 @@ use Prim.Native.Nat.{ℕ, zero, suc, _+_, _-_, _*_, _/_, _%_, _≤_, _<_}
 use native.Mathlib.Nat.{le-of-suc-le-suc, not-suc-le-zero}
 use native.Mathlib.Numerals.{add-one}
 use native.Mathlib.Omega.{arith}
-use lib.ListN.{length, take, drop, getD, set, length-take, length-drop, length-append}
-use lib.Seq.{take-all, drop-length, set-split, drop-at, take-at, length-take-le}
+use lib.ListN.{length, take, drop, getD, set, length-take, length-drop, length-append, drop-of-length-le}
+use lib.Seq.{take-length, drop-length, drop-drop, set-split, drop-at, take-at, length-take-le, sets, sets-eq}
+use Rattle.sampling.specs.CommonLaws.{all-behind}
 use Rattle.sampling.specs.BigEndian.{bytesOf}
 use Rattle.sampling.specs.BigEndianLaws.{length-bytesOf}
 use Rattle.sampling.specs.Fips180.{joined}
@@ -38,12 +39,21 @@ all-written r out w e = e
 
 -- ---- a string
 
--- a copy into a part: p is what the part, X before, holds then; what follows the copy isn't looked at
-pub copied-in : (b s p X rest : List ℕ) (a : ℕ) → a ≤ length b → p ≡ take (length s) s ++ drop (length s) X
-    → take (a + length s) (take a b ++ (p ++ rest)) ≡ take a b ++ s
-copied-in b s p X rest a le e =
-    rw (e, take-all (length s) s (omega arith), append-assoc, ← append-assoc)
-    (take-at (take a b ++ s) _ (a + length s) (length-append (take a b) s ∙ rw (length-take-le a b le)))
+-- a copy into the part that starts at a: p is what the part, n bytes long, holds then
+pub copied-in : (b s p : List ℕ) (a n : ℕ) → a + length s ≤ length b → n ≡ length b - a → p ≡ take (length s) s ++ drop (length s) (take n (drop a b))
+    → take a b ++ (p ++ drop n (drop a b)) ≡ sets b a s
+copied-in b s p a n le k e =
+    rw (
+      e,
+      k,
+      take-length s,
+      all-behind b a,
+      drop-drop (length s) a b,
+      drop-of-length-le (drop a b) {i = length b - a} (omega (arith, length-drop a b)),
+      append-nil (s ++ drop (a + length s) b),
+      sets-eq s b a le,
+      append-assoc,
+    )
 
 -- ---- words
 

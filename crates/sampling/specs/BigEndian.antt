@@ -1,4 +1,4 @@
--- Numbers in bytes, the most significant byte first: document 01's "big-endian", FIPS 180-4, section 3.1.
+-- Numbers in big-endian bytes, the most significant first: document 01, and FIPS 180-4, section 3.1.
 use mathlib.Core.List.{List, [], _∷_, _++_}
 use Prim.Native.Nat.{ℕ, zero, suc, _+_, _*_, _/_, _%_}
 use lib.ListN.{getD}

@@ -74,9 +74,13 @@ K =
 unfoldable pub zeros : ℕ → ℕ
 zeros n = (119 - n % 64) % 64
 
--- the message, the bit 1, the zeros, and the message's length in bits in 64 bits
+-- what follows a message of n bytes: the bit 1, the zeros, and the message's length in bits in 64 bits
+unfoldable pub padding : ℕ → List ℕ
+padding n = (128 ∷ replicate (zeros n) 0) ++ bytesOf 8 (8 * n)
+
+-- the message with its padding
 unfoldable pub padded : List ℕ → List ℕ
-padded m = m ++ ((128 ∷ replicate (zeros (length m)) 0) ++ bytesOf 8 (8 * length m))
+padded m = m ++ padding (length m)
 
 -- ---- 5.2.1: parsing
 

@@ -1,4 +1,4 @@
--- Document 01, Hash: SHA-256 over up to four byte strings joined, 2^29 bytes together at most.
+-- Document 01, Hash: SHA-256 of joined strings, and the limit on their length in all.
 use mathlib.Core.Bool.{cond}
 use mathlib.Core.List.{List}
 use Prim.Native.Nat.{ℕ, _^_}
@@ -7,7 +7,7 @@ use lib.ListN.{length, replicate}
 use Rattle.sampling.specs.Fips180.{sha256}
 use Rattle.sampling.specs.declared.sha256.Hashed.{Hashed}
 
--- 01's number and the digest for the joined strings m: 0 with their digest, or 9, over 2^29 bytes joined, with zeros
+-- 01's number and the digest for the joined strings m: 0 with their digest, or 9 with zeros where m is too long
 unfoldable pub hashed : List ℕ → ℕ × List ℕ
 hashed m = cond (leb (length m) (2 ^ 29)) (0, sha256 m) (9, replicate 32 0)
 

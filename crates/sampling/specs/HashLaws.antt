@@ -7,10 +7,10 @@ use borrow.Author.Tests.{le-leb, lt-leb}
 use lib.ListN.{length, getD, replicate, length-append, length-replicate}
 use Rattle.sampling.specs.BigEndian.{bytesOf}
 use Rattle.sampling.specs.BigEndianLaws.{length-bytesOf, All256, all256-at, all256-bytesOf, all256-append}
-use Rattle.sampling.specs.Fips180.{zeros, padded, joined, digestOf, sha256}
+use Rattle.sampling.specs.Fips180.{zeros, padding, padded, joined, digestOf, sha256}
 use Rattle.sampling.specs.Hash.{hashed}
 
--- ---- 5.1.1: k, the number of zero bits, "is the smallest, non-negative solution to the equation l + 1 + k ≡ 448 mod 512"
+-- ---- 5.1.1: k, the number of zero bits, solves l + 1 + k ≡ 448 modulo 512, and no smaller k does
 
 pub zeros-solve : (n : ℕ) → (8 * n + 1 + (7 + 8 * zeros n)) % 512 ≡ 448
 unfolding zeros
@@ -22,7 +22,7 @@ zeros-smallest n k e = omega arith
 
 -- a padded message is whole blocks of 64 bytes (512 bits)
 pub padded-whole : (m : List ℕ) → length (padded m) % 64 ≡ 0
-unfolding padded zeros
+unfolding padded padding zeros
 padded-whole m = simp (length-append, length-replicate, length-bytesOf) (omega arith)
 
 -- ---- 6.2: a digest is 32 bytes, each below 256

@@ -6,8 +6,9 @@ pub mod Fips180
 pub mod Hash
 pub mod HashLaws
 pub mod FipsExamples
+pub mod HashInner
 pub mod Hasher
+pub mod HasherLaws
 pub mod Sample
 pub mod SampleLaws
 pub mod Exports
-pub mod Cases

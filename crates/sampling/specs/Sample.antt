@@ -14,16 +14,16 @@ use Rattle.sampling.specs.declared.sample.Draw.the-variants as draw
 use Rattle.sampling.specs.declared.sample.Chance.the-variants as chance
 use Rattle.sampling.specs.declared.sample.Threshold.the-variants as at
 
--- 01, Sampler, "a power of two": n is one of 2 ^ 0, .. 2 ^ (k - 1)
+-- 01, Sampler, powers of two: n is one of 2 ^ 0, .. 2 ^ (k - 1)
 unfoldable pub isPower : ℕ → ℕ → Bool
 isPower zero n = false
 isPower (suc k) n = eqb n (2 ^ k) || isPower k n
 
--- 01, Sampler, "D = floor((2^128 − 1) / n)"
+-- 01, Sampler, D: a quotient, rounded down
 abbrev pub D : ℕ → ℕ
 D n = (2 ^ 128 - 1) / n
 
--- 01, Sampler, "no draw if i ≥ D × n, otherwise i mod n": 1 and 0, or 0 and the value
+-- 01, Sampler, any other n: no draw from D × n on, 1 and 0; else 0 and the remainder
 unfoldable pub modNotPower : ℕ → ℕ → ℕ × ℕ
 modNotPower i n = cond (leb (D n * n) i) (1, 0) (0, i % n)
 
@@ -41,15 +41,15 @@ drawNumber draw.Refused = (7, 0)
 unfoldable pub outside : ℕ → Float → Bool
 outside hi x = isNan x || (lt x (fin false 0 (pos 0)) || lt (fin false hi (pos 0)) x)
 
--- 01, Lent and given back, refusal 3: "q below 0, above 1 or NaN"
+-- 01, Lent and given back, refusal 3: q is no number from 0 to 1
 abbrev pub outsideUnit : Float → Bool
 outsideUnit q = outside 1 q
 
--- 01, Sampler, "floor(q × 2^128) .., q being the double's exact amount": m * 2 ^ e, with 2 ^ e as up e / down e
+-- 01, Sampler: floor(q × 2^128), with no rounding before, for q = m * 2 ^ e, with 2 ^ e as up e / down e
 abbrev pub floorOf : ℕ → ℤ → ℕ
 floorOf m e = m * up e * 2 ^ 128 / down e
 
--- 01, Sampler, X: "the smaller of floor(q × 2^128) and 2^128 − 1". Where q is refused, X is not asked for
+-- 01, Sampler, X: that floor, but at most 2^128 − 1. Where q is refused, X is not asked for
 unfoldable pub threshold : Float → ℕ
 threshold nan = 0
 threshold (inf s) = 2 ^ 128 - 1
@@ -59,7 +59,7 @@ threshold (fin s m e) = min (floorOf m e) (2 ^ 128 - 1)
 unfoldable pub thresholdOrRefusal : Float → ℕ × ℕ
 thresholdOrRefusal q = cond (outsideUnit q) (3, 0) (0, threshold q)
 
--- 01, Vec, Digest and u128 in this source: "u128 becomes two u64 words"
+-- 01, Vec, Digest and u128 in this source: a u128 by its two words
 abbrev pub valueOf : Words → ℕ
 valueOf w = w .hi * 2 ^ 64 + w .lo
 
@@ -68,7 +68,7 @@ abbrev pub thresholdNumber : Threshold → ℕ × ℕ
 thresholdNumber (at.At w) = (0, valueOf w)
 thresholdNumber at.Refused = (3, 0)
 
--- 01, Sampler, `sample_bernoulli`: "yes exactly when i < X". 1: yes; 0: no; 3: refused
+-- 01, Sampler, `sample_bernoulli`, as a number. 1: yes, i < X; 0: no; 3: refused
 unfoldable pub bernoulli : List ℕ → Float → ℕ
 bernoulli h q = cond (outsideUnit q) 3 (cond (ltb (bigEndian 16 h) (threshold q)) 1 0)
 

@@ -125,7 +125,7 @@ threshold-below nan = lit< tt
 threshold-below (inf s) = lit< tt
 threshold-below (fin s m e) = lt-of-le-of-lt (min-le-right (floorOf m e) (2 ^ 128 - 1)) (lit< tt)
 
--- "Negative zero is zero"
+-- 01, Sampler: X of −0.0
 pub negative-zero : thresholdOrRefusal (ofBits binary64 (2 ^ 63)) ≡ (0, 0)
 unfolding ofBits isNan lt outside threshold thresholdOrRefusal
 negative-zero = refl
@@ -154,7 +154,7 @@ pub bernoulli-is : (h : List ℕ) (q : Float) → outsideUnit q ≡ false → be
 unfolding bernoulli
 bernoulli-is h q o = rw o
 
--- a q that is not refused: yes exactly when i < X
+-- a q that is not refused: the yes is i < X
 module _ (h : List ℕ) (q : Float) (o : outsideUnit q ≡ false) where
   pub yes-when-below : bigEndian 16 h < threshold q → bernoulli h q ≡ 1
   yes-when-below l = bernoulli-is h q o ∙ ap (λ (t : Bool). cond t 1 0) (lt-ltb _ _ l)

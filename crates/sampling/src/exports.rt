@@ -54,7 +54,7 @@ fn chance_number(c: Chance) -> u32
 }
 
 // 0 with the value drawn in the 8 bytes of `out`, the highest first; otherwise `out` is untouched and the answer is
-// 1: no draw; 7: n is 0; 8: h is not of 16 bytes, or `out` not of 8.
+// 1: no draw; 7: n is 0; 8: h's length isn't 16, or `out`'s isn't 8.
 #[no_mangle]
 pub extern "C" fn alba_sample_uniform(h: &[u8], n: u64, out: &mut [u8]) -> u32
     ensures { λ r. ⌜ (r, now (out .exit)) ≡ exportedUniform (now (h .entry)) n (now (out .entry)) ⌝ }
@@ -76,7 +76,7 @@ pub extern "C" fn alba_sample_uniform(h: &[u8], n: u64, out: &mut [u8]) -> u32
     number
 }
 
-// 1: yes; 0: no; 8: h is not of 16 bytes; 3: q is below 0, above 1 or a NaN.
+// 1: yes; 0: no; 8: h's length isn't 16; 3: q is no number from 0 to 1.
 #[no_mangle]
 pub extern "C" fn alba_sample_bernoulli(h: &[u8], q: f64) -> u32
     ensures { λ r. ⌜ r ≡ exportedBernoulli (now (h .entry)) q ⌝ }

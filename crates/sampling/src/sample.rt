@@ -149,7 +149,7 @@ pub fn sample_uniform(h: [u8; 16], n: u64) -> Draw
     mod_not_power_of_2(i, n)
 }
 
-// Whether q is no probability: a NaN, below 0 or above 1. Negative zero is zero.
+// Whether q is no probability: no number from 0 to 1. -0.0 counts as 0.
 fn is_outside_unit(q: f64) -> bool
     ensures { λ r. ⌜ r ≡ outsideUnit q ⌝ }
 {
@@ -162,7 +162,7 @@ fn is_outside_unit(q: f64) -> bool
     q > 1.0
 }
 
-// The smaller of floor(q * 2^128) and 2^128 - 1, exactly. q is digits * 2^(exponent - 1075), so q * 2^128 is digits * 2^(exponent - 947),
+// X of q, exactly: floor(q * 2^128), at most 2^128 - 1. q is digits * 2^(exponent - 1075), so q * 2^128 is digits * 2^(exponent - 947),
 // with digits of 53 bits. By the exponent: up to 894 it is less than 1, a subnormal q too, and below 884 the shift would be 64 or more; up to
 // 947 it fits the low word; from 1011 on its low word is 0; at 1023 q is 1.
 fn threshold_words(q: f64) -> Words
@@ -199,7 +199,7 @@ fn threshold_words(q: f64) -> Words
     }
 }
 
-// X of the probability q. Refused: q is below 0, above 1 or a NaN.
+// X of the probability q. Refused: q is no number from 0 to 1.
 pub fn threshold_of(q: f64) -> Threshold
     ensures { λ r. ⌜ thresholdNumber r ≡ thresholdOrRefusal q ⌝ }
 {
@@ -220,7 +220,7 @@ pub fn below_threshold(h: [u8; 16], x: Words) -> bool
     i.hi < x.hi
 }
 
-// Yes with the probability q. Refused: q is below 0, above 1 or a NaN.
+// Yes with the probability q. Refused: q is no number from 0 to 1.
 pub fn sample_bernoulli(h: [u8; 16], q: f64) -> Chance
     ensures { λ r. ⌜ chanceNumber r ≡ bernoulli h q ⌝ }
 {

@@ -1,11 +1,13 @@
 // SHA-256 of FIPS 180-4, over byte strings that are absorbed one after the other.
 ghost use mathlib.Core.Path.{_≡_};
-ghost use mathlib.Core.List.{List, [], _++_};
+ghost use mathlib.Core.List.{List, _++_};
 ghost use Prim.Native.Nat.{ℕ, _+_, _*_, _%_, _^_, _<_, _≤_};
-ghost use lib.ListN.{length, getD, take};
+ghost use lib.ListN.{length, getD};
+ghost use lib.Seq.{sets};
 ghost use Rattle.sampling.specs.Fips180.{_⊞_, Ch, Maj, Σ₀, Σ₁, σ₀, σ₁, W, round, rounds, plus, compressed, word, block, zeros, digestOf};
 ghost use Rattle.sampling.specs.Hash.{hashed, hashedNumber};
-ghost use Rattle.sampling.specs.Hasher.{Window, wordAfter, roundsOver, Takes, Absorbed};
+ghost use Rattle.sampling.specs.HashInner.{Window, wordAfter, roundsOver};
+ghost use Rattle.sampling.specs.Hasher.{newHasher, absorbBytes, tooLong, absorbed, finished};
 use crate::big_endian;
 
 // The hash value H, or the eight working variables a to h.
@@ -323,7 +325,7 @@ fn digest_of(s: State) -> [u8; 32]
 // A block with s in its bytes from `at` on.
 fn with_bytes(block: [u8; 64], at: usize, s: &[u8]) -> [u8; 64]
     requires { ⌜ at + length (now s) ≤ 64 ⌝ }
-    ensures { λ r. ⌜ take (at + length (now (s .entry))) r ≡ take at block ++ now (s .entry) ⌝ }
+    ensures { λ r. ⌜ r ≡ sets block at (now (s .entry)) ⌝ }
 {
     let mut out = block;
     bytes::copy(s, &mut out[at..]);
@@ -333,7 +335,7 @@ fn with_bytes(block: [u8; 64], at: usize, s: &[u8]) -> [u8; 64]
 // s, where it ends within the block that is being filled.
 fn absorb_part(h: Hasher, s: &[u8]) -> Hasher
     requires { ⌜ (h .len % 64 + length (now s) < 64) × (h .len + length (now s) < 2 ^ 62) ⌝ }
-    ensures { λ r. ⌜ Takes h (now (s .entry)) r ⌝ }
+    ensures { λ r. ⌜ r ≡ absorbBytes h (now (s .entry)) ⌝ }
 {
     let state = h.state;
     let len = h.len;
@@ -346,16 +348,17 @@ fn absorb_part(h: Hasher, s: &[u8]) -> Hasher
     }
 }
 
-// s, where it fills that block to its end.
+// s, where it fills that block to its end. The next block is zeros, so that equal bytes absorbed leave equal hashers.
 fn absorb_end(h: Hasher, s: &[u8]) -> Hasher
     requires { ⌜ (h .len % 64 + length (now s) ≡ 64) × (h .len + length (now s) < 2 ^ 62) ⌝ }
-    ensures { λ r. ⌜ Takes h (now (s .entry)) r ⌝ }
+    ensures { λ r. ⌜ r ≡ absorbBytes h (now (s .entry)) ⌝ }
 {
     let state = h.state;
     let len = h.len;
     let old = h.block;
-    let block = with_bytes(old, len % 64, s);
-    let next = compress(state, block_at(&block, 0));
+    let full = with_bytes(old, len % 64, s);
+    let next = compress(state, block_at(&full, 0));
+    let block = [0u8; 64];
     Hasher {
         state: next,
         block,
@@ -363,14 +366,13 @@ fn absorb_end(h: Hasher, s: &[u8]) -> Hasher
     }
 }
 
-// s, where it is whole blocks and none is being filled: each is read in place.
+// s, where it is whole blocks, one at least, and none is being filled: each is read in place.
 fn absorb_blocks(h: Hasher, s: &[u8]) -> Hasher
-    requires { ⌜ (h .len % 64 ≡ 0) × (length (now s) % 64 ≡ 0) × (h .len + length (now s) < 2 ^ 62) ⌝ }
-    ensures { λ r. ⌜ Takes h (now (s .entry)) r ⌝ }
+    requires { ⌜ (h .len % 64 ≡ 0) × (length (now s) % 64 ≡ 0) × (0 < length (now s)) × (h .len + length (now s) < 2 ^ 62) ⌝ }
+    ensures { λ r. ⌜ r ≡ absorbBytes h (now (s .entry)) ⌝ }
 {
     let mut state = h.state;
     let len = h.len;
-    let block = h.block;
     let mut o = 0;
     while o < s.len() {
         state = compress(state, block_at(s, o));
@@ -378,7 +380,7 @@ fn absorb_blocks(h: Hasher, s: &[u8]) -> Hasher
     }
     Hasher {
         state,
-        block,
+        block: [0u8; 64],
         len: len + s.len(),
     }
 }
@@ -386,8 +388,11 @@ fn absorb_blocks(h: Hasher, s: &[u8]) -> Hasher
 // s, where no block is being filled.
 fn absorb_aligned(h: Hasher, s: &[u8]) -> Hasher
     requires { ⌜ (h .len % 64 ≡ 0) × (h .len + length (now s) < 2 ^ 62) ⌝ }
-    ensures { λ r. ⌜ Takes h (now (s .entry)) r ⌝ }
+    ensures { λ r. ⌜ r ≡ absorbBytes h (now (s .entry)) ⌝ }
 {
+    if s.len() < 64 {
+        return absorb_part(h, s);
+    }
     let n = s.len() / 64 * 64;
     absorb_part(absorb_blocks(h, &s[..n]), &s[n..])
 }
@@ -395,7 +400,7 @@ fn absorb_aligned(h: Hasher, s: &[u8]) -> Hasher
 // s, whatever it holds.
 fn absorb_all(h: Hasher, s: &[u8]) -> Hasher
     requires { ⌜ h .len + length (now s) < 2 ^ 62 ⌝ }
-    ensures { λ r. ⌜ Takes h (now (s .entry)) r ⌝ }
+    ensures { λ r. ⌜ r ≡ absorbBytes h (now (s .entry)) ⌝ }
 {
     let filled = h.len % 64;
     if filled == 0 {
@@ -415,10 +420,24 @@ fn zeros_of(n: usize) -> usize
     (119 - n % 64) % 64
 }
 
+// A hasher past the limit. It is the same whatever was absorbed, so that two strings leave what the two joined leave.
+fn too_long() -> Hasher
+    ensures { λ r. ⌜ r ≡ tooLong ⌝ }
+{
+    let h = Hasher::new();
+    let state = h.state;
+    let block = h.block;
+    Hasher {
+        state,
+        block,
+        len: 0x2000_0001,
+    }
+}
+
 impl Hasher {
     // Nothing absorbed.
     pub fn new() -> Hasher
-        ensures { λ r. ⌜ Absorbed [] r ⌝ }
+        ensures { λ r. ⌜ r ≡ newHasher ⌝ }
     {
         Hasher {
             state: State {
@@ -438,28 +457,19 @@ impl Hasher {
 
     // One string more.
     pub fn absorb(self, s: &[u8]) -> Hasher
-        ensures { λ r. ⌜ ((m : List ℕ) → Absorbed m self → Absorbed (m ++ now (s .entry)) r) ⌝ }
+        ensures { λ r. ⌜ r ≡ absorbed self (now (s .entry)) ⌝ }
     {
         let len = self.len;
-        if 0x2000_0000 < len {
-            return self;
-        }
-        if 0x2000_0000 - len < s.len() {
-            let state = self.state;
-            let block = self.block;
-            return Hasher {
-                state,
-                block,
-                len: 0x2000_0001,
-            };
+        if 0x2000_0000 < len || 0x2000_0000 - len < s.len() {
+            return too_long();
         }
         absorb_all(self, s)
     }
 
-    // The digest of all that was absorbed, or 9 with zeros. The padding (5.1.1) is absorbed like any string: the bit 1 and
-    // zeros, then the length in bits.
+    // 0 with the digest of all that was absorbed, or 9 with zeros. The padding (5.1.1) is absorbed like any string: the bit 1
+    // and zeros, then the length in bits.
     pub fn finish(self) -> Hashed
-        ensures { λ r. ⌜ ((m : List ℕ) → Absorbed m self → hashedNumber r ≡ hashed m) ⌝ }
+        ensures { λ r. ⌜ hashedNumber r ≡ finished self ⌝ }
     {
         let len = self.len;
         if 0x2000_0000 < len {

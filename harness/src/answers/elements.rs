@@ -3,7 +3,7 @@
 use super::{bits, Answers, DISTINCT, PROVE, VERIFY};
 use crate::compare::searches::{self, Outcome};
 use crate::compare::verdicts::{self, Claim};
-use crate::compare::{distinct, limits};
+use crate::compare::{distinct, limits, Checked};
 use crate::{ffi, ffi::Settings, list::List, original, original::ProofOf, rng::Rng};
 
 /// The completeness of the realistic settings.
@@ -14,18 +14,19 @@ const MOST: usize = 1000;
 /// The most elements whose distinctness is asked of each kind of list.
 const LONGEST: usize = 9;
 
-pub fn write(answers: &mut Answers) {
+pub fn write(answers: &mut Answers) -> Checked {
     write_distinct(answers);
     let mut rng = answers.rng(PROVE);
     for (settings, list) in limits::i_to_l() {
-        prove(answers, &settings, &list);
+        prove(answers, &settings, &list)?;
     }
-    write_deepest(answers);
+    write_deepest(answers)?;
     write_claims(answers);
-    write_realistic(answers, &mut rng);
+    write_realistic(answers, &mut rng)?;
     while !(answers.is_full(DISTINCT) && answers.is_full(PROVE) && answers.is_full(VERIFY)) {
-        write_family(answers, &mut rng);
+        write_family(answers, &mut rng)?;
     }
+    Ok(())
 }
 
 /// Lists of each length of every kind, and each again with one element's data put in the place of another's.
@@ -64,18 +65,19 @@ fn distinct(answers: &mut Answers, list: &List) {
 }
 
 /// Searches as deep as the settings admit: found just within the bound, just past it, and with a choice at each length.
-fn write_deepest(answers: &mut Answers) {
+fn write_deepest(answers: &mut Answers) -> Checked {
     let of = |elements: &[&[u8]]| {
         let mut list = List::default();
         elements.iter().for_each(|data| list.push(data, None, 0));
         list
     };
     let one = Settings { set_size: 1, proof_size: 1024, max_retries: 2, search_width: 1, dfs_bound: 1025, q: 1.0 };
-    prove(answers, &one, &of(&[b"a"]));
-    prove(answers, &Settings { dfs_bound: 1024, ..one }, &of(&[b"a"]));
-    prove(answers, &Settings { q: 0.001, dfs_bound: 1 << 48, ..one }, &of(&[b"a", b"b"]));
-    prove(answers, &Settings { proof_size: 0, max_retries: 1000, q: 0.0, ..one }, &of(&[b""]));
-    prove(answers, &Settings { search_width: (1 << 32) - 1, q: 0.001, proof_size: 1, ..one }, &of(&[b""]));
+    prove(answers, &one, &of(&[b"a"]))?;
+    prove(answers, &Settings { dfs_bound: 1024, ..one }, &of(&[b"a"]))?;
+    prove(answers, &Settings { q: 0.001, dfs_bound: 1 << 48, ..one }, &of(&[b"a", b"b"]))?;
+    prove(answers, &Settings { proof_size: 0, max_retries: 1000, q: 0.0, ..one }, &of(&[b""]))?;
+    prove(answers, &Settings { search_width: (1 << 32) - 1, q: 0.001, proof_size: 1, ..one }, &of(&[b""]))?;
+    Ok(())
 }
 
 /// Chains that surely exist, of a single bin: what the counters and the length decide by themselves, R = 0 and more elements than the
@@ -108,7 +110,7 @@ fn write_claims(answers: &mut Answers) {
 }
 
 /// The small case's settings as they are meant to be used, with lists from set_size elements on to more than are kept.
-fn write_realistic(answers: &mut Answers, rng: &mut Rng) {
+fn write_realistic(answers: &mut Answers, rng: &mut Rng) -> Checked {
     for (set_size, proof_size, elements, bytes) in [(100, 20, 100, 32), (100, 20, 150, 48), (150, 30, 300, 8), (200, 50, 407, 4)] {
         let mut list = List::default();
         let mut data = [0; 48];
@@ -117,23 +119,24 @@ fn write_realistic(answers: &mut Answers, rng: &mut Rng) {
             list.push(&data[..bytes], Some(index), 0);
         }
         let settings = original::small_case(set_size, proof_size, COMPLETENESS);
-        let found = prove(answers, &settings, &list);
+        let found = prove(answers, &settings, &list)?;
         verify_all(answers, rng, &settings, &list, &found);
     }
+    Ok(())
 }
 
 /// A random list, searched four times, with bounds at and around the count that came out before; then asked for more than it has; the
 /// first proof that was found, and damaged copies of it.
-fn write_family(answers: &mut Answers, rng: &mut Rng) {
+fn write_family(answers: &mut Answers, rng: &mut Rng) -> Checked {
     let mut settings = Settings { dfs_bound: WIDE, ..searches::any_settings(rng) };
     let list = searches::any_list(rng, settings.set_size as usize);
     if list.data.len() > MOST {
-        return;
+        return Ok(());
     }
     distinct(answers, &list);
     let mut first = None;
     for _ in 0..4 {
-        let outcome = prove(answers, &settings, &list);
+        let outcome = prove(answers, &settings, &list)?;
         let bound = searches::next_bound(rng, &settings, &outcome);
         if outcome.number == 0 && first.is_none() {
             first = Some((settings, outcome));
@@ -141,11 +144,12 @@ fn write_family(answers: &mut Answers, rng: &mut Rng) {
         settings.dfs_bound = bound;
     }
     if rng.below(4) == 0 {
-        prove(answers, &Settings { set_size: list.len() as u64 + 1 + rng.below(9), ..settings }, &list);
+        prove(answers, &Settings { set_size: list.len() as u64 + 1 + rng.below(9), ..settings }, &list)?;
     }
     if let Some((settings, outcome)) = first {
         verify_all(answers, rng, &settings, &list, &outcome);
     }
+    Ok(())
 }
 
 /// A proof as it is, and about a third of its damaged copies.
@@ -166,15 +170,10 @@ fn shown(s: &Settings) -> String {
     format!("{} {} {} {} {} {}", s.set_size, s.proof_size, s.max_retries, s.search_width, s.dfs_bound, bits(s.q))
 }
 
-/// The Rust's routine gives the count; that there are too few elements it says only where its users call it.
-fn prove(answers: &mut Answers, s: &Settings, list: &List) -> Outcome {
-    let too_few = (list.len() as u64) < s.set_size;
-    let found = match too_few {
-        true => Outcome { number: original::prove(s, &list.elements()), retry_counter: 0, search_counter: 0, count: 0, places: Vec::new() },
-        false => searches::due(s, list),
-    };
+fn prove(answers: &mut Answers, s: &Settings, list: &List) -> Result<Outcome, String> {
+    let found = searches::due(s, list)?;
     if answers.is_full(PROVE) {
-        return found;
+        return Ok(found);
     }
     let Outcome { number, retry_counter, search_counter, count, .. } = found;
     let answer = match number {
@@ -184,7 +183,7 @@ fn prove(answers: &mut Answers, s: &Settings, list: &List) -> Outcome {
     };
     answers.list(list);
     answers.case(PROVE, &shown(s), &answer);
-    found
+    Ok(found)
 }
 
 fn verify(answers: &mut Answers, claim: &Claim) {

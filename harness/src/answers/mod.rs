@@ -24,7 +24,7 @@ const FORM: &str = "\
 pub fn run(seed: u64) -> Result<(), String> {
     let mut answers = Answers { seed, lines: String::new(), counts: [0; 6], list: List::default() };
     samplers::write(&mut answers);
-    elements::write(&mut answers);
+    elements::write(&mut answers)?;
     let counts: Vec<String> = KINDS.iter().zip(answers.counts).map(|((name, _), count)| format!("{name} {count}")).collect();
     let head = format!(
         "# Answers of the original Rust, cardano-scaling/alba, commit 43c389a516, in a release build.\n\

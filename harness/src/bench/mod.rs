@@ -6,8 +6,14 @@
 mod measure;
 mod openssl;
 mod searches;
+mod steps;
 
-use crate::{args::AGAIN, ffi, list::List, rng::Rng};
+use crate::{
+    args::{Bench, AGAIN},
+    ffi,
+    list::List,
+    rng::Rng,
+};
 use measure::{in_turns, Measured, Work, ROUNDS};
 use oracle::utils::types::Element;
 use sha2::{Digest, Sha256};
@@ -15,14 +21,20 @@ use std::{fs, hint::black_box, process};
 
 const SHA2: &str = if cfg!(feature = "portable") { "`sha2`, portable code" } else { "`sha2` as it stands" };
 
-/// The whole table, or the rows for one of OpenSSL's other settings.
-pub fn run(setting: Option<usize>) -> Result<(), String> {
-    if let Some(setting) = setting {
+pub fn run(part: Bench) -> Result<(), String> {
+    if let Bench::OpenSsl(setting) = part {
         return hashes(&[openssl::SETTINGS[setting % openssl::SETTINGS.len()].0]);
     }
     let (cpu, has) = processor();
     println!("Processor: {cpu}, {} SHA instructions.\n", if has { "with" } else { "without" });
     println!("| work | against | ours | theirs | ours / theirs |\n|---|---|---|---|---|");
+    match part {
+        Bench::Steps => steps::run(),
+        _ => whole(),
+    }
+}
+
+fn whole() -> Result<(), String> {
     hashes(&[SHA2, "OpenSSL as it stands"])?;
     for setting in 0..openssl::SETTINGS.len() {
         again(setting)?;
@@ -30,8 +42,9 @@ pub fn run(setting: Option<usize>) -> Result<(), String> {
     samplers();
     distinctness();
     searches::run()?;
+    steps::run()?;
     println!("\nThe ratio is of speeds: 1.00 is as fast, above it faster. Times are the thread's own; times and ratios are medians of {ROUNDS} rounds,");
-    println!("those of searches medians over their seeds.");
+    println!("those of searches medians over their seeds; where nothing is found it is one search.");
     Ok(())
 }
 

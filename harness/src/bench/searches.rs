@@ -16,7 +16,7 @@ use crate::{
 use oracle::utils::types::Element;
 use std::hint::black_box;
 
-const SET_SIZE: u64 = 1000;
+pub const SET_SIZE: u64 = 1000;
 const COMPLETENESS: f64 = 128.0;
 /// Proof sizes, and how many lists are searched with each: a search has about 16 u² steps.
 const PROOF_SIZES: [(u64, u64); 4] = [(50, 15), (100, 9), (200, 7), (400, 3)];
@@ -43,7 +43,7 @@ pub fn run() -> Result<(), String> {
 }
 
 /// The Rust copies the elements of its proof at each step, so its speed depends on their type.
-fn against(kind: &str) -> String {
+pub fn against(kind: &str) -> String {
     format!("the Rust over `{kind}`, {SHA2}")
 }
 
@@ -71,7 +71,7 @@ fn searches<E: AsRef<[u8]> + Clone>(
 
 /// One list: nanoseconds a step of ours and of theirs, and the proof.
 fn search<E: AsRef<[u8]> + Clone>(settings: &Settings, seed: u64, element: fn(&[u8; 48]) -> E) -> Result<(f64, f64, Proven<E>), String> {
-    let (list, elements) = any_elements(&mut Rng::new(seed, settings.proof_size), element);
+    let (list, elements) = any_elements(&mut Rng::new(seed, settings.proof_size), SET_SIZE, element);
     let mut places = vec![u32::MAX; settings.proof_size as usize];
     let mut bins = vec![u32::MAX; 3 * SET_SIZE as usize + 1];
     let mut out = [0; 3];
@@ -80,7 +80,7 @@ fn search<E: AsRef<[u8]> + Clone>(settings: &Settings, seed: u64, element: fn(&[
         places.fill(0);
         ffi::prove(black_box(settings), list.lent(), &mut places[..], &mut bins[..], &mut out[..])
     });
-    let (theirs, (steps, answer)) = timed(|| original::search(black_box(settings), &elements));
+    let (theirs, (steps, answer)) = timed(|| original::prove_routine(black_box(settings), &elements));
     let failed = |what: &str| format!("harness: prove, u = {}, list {seed}: {what}", settings.proof_size);
     let proof = answer.map_err(|theirs| failed(&format!("ours {number}, the Rust {theirs}")))?;
     let is_same = places.iter().zip(&proof.element_sequence).all(|(place, element)| element.index == Some(u64::from(*place)));
@@ -91,11 +91,11 @@ fn search<E: AsRef<[u8]> + Clone>(settings: &Settings, seed: u64, element: fn(&[
     Ok((a_step(ours), a_step(theirs), Proven { ours: list.at(&places).written(), theirs: proof }))
 }
 
-/// set_size elements of 48 random bytes, with their place as index.
-fn any_elements<E: AsRef<[u8]> + Clone>(rng: &mut Rng, element: fn(&[u8; 48]) -> E) -> (List, Vec<Element<E>>) {
-    let list = list_of_48(rng, SET_SIZE);
+/// So many elements of 48 random bytes, with their place as index.
+pub fn any_elements<E: AsRef<[u8]> + Clone>(rng: &mut Rng, count: u64, element: fn(&[u8; 48]) -> E) -> (List, Vec<Element<E>>) {
+    let list = list_of_48(rng, count);
     let data = |place: u64| list.data_of(place as usize).try_into().expect("48 bytes");
-    let elements = (0..SET_SIZE).map(|place| Element::new(element(data(place)), Some(place))).collect();
+    let elements = (0..count).map(|place| Element::new(element(data(place)), Some(place))).collect();
     (list, elements)
 }
 

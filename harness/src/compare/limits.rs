@@ -1,15 +1,37 @@
-//! Searches with each setting and each list at its limit, and the specification's cases i to l, against the Rust.
+//! Searches with each setting and each list at its limit, against the Rust, and the specification's cases i to l, against the Rust and
+//! what the specification says of them.
 
 use super::{blocks, faults, rules, searches, Checked, Run};
-use crate::{ffi::Settings, list::List};
+use crate::{ffi, ffi::Settings, list::List};
 
 pub fn run(run: &mut Run, _: u64) -> Checked {
     let cases = cases();
     blocks::run(run, cases.len() as u64, |number, block| {
         let (settings, list) = &cases[number as usize];
         searches::check_and_verify(block, settings, list).map(|_| ())
+    })?;
+    let listed = i_to_l();
+    blocks::run(run, listed.len() as u64, |number, block| {
+        let ((settings, list), said) = (&listed[number as usize], SAID[number as usize]);
+        let outcome = searches::check_and_verify(block, settings, list)?;
+        match (outcome.number, outcome.count) == said {
+            true => Ok(()),
+            false => Err(format!("  {settings:?}\n  the specification's cases i to l: {said:?} is said, and {outcome:?} comes out\n")),
+        }
     })
 }
+
+/// The number and the count that the specification gives for its cases i to l, or that follow from its words where it leaves one out.
+const SAID: [(u32, u64); 8] = [
+    (ffi::NOT_FOUND, 9),
+    (ffi::NOT_FOUND_IN_BOUNDS, 9),
+    (ffi::NOT_FOUND, 7),
+    (ffi::NOT_FOUND_IN_BOUNDS, 4),
+    (ffi::NOT_FOUND, 2),
+    (ffi::NOT_FOUND_IN_BOUNDS, 2),
+    (ffi::NOT_FOUND_IN_BOUNDS, 0),
+    (ffi::NOT_FOUND, 0),
+];
 
 fn cases() -> Vec<(Settings, List)> {
     let mut cases = Vec::new();
@@ -35,7 +57,6 @@ fn cases() -> Vec<(Settings, List)> {
     }
     cases.push((Settings { search_width: (1 << 32) - 1, max_retries: 2, dfs_bound: 1000, ..idle }, of(1, 1)));
     cases.push((Settings { search_width: (1 << 32) - 1, max_retries: 2, q: 0.001, ..idle }, of(1, 1)));
-    cases.extend(i_to_l());
     cases
 }
 

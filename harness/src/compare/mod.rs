@@ -3,10 +3,12 @@
 pub mod bernoulli;
 pub mod blocks;
 pub mod distinct;
+mod export_calls;
 pub mod faults;
 mod fence;
 pub mod hash;
 pub mod limits;
+mod parameters;
 pub mod prover_refusals;
 pub mod refusals;
 pub mod rules;
@@ -32,7 +34,8 @@ type Kind = fn(&mut Run, u64) -> Checked;
 
 pub fn run(options: &Compare) -> Checked {
     println!("seed 0x{:016x}, {} random cases", options.seed, options.cases);
-    let kinds: [(&str, Kind, u64); 12] = [
+    let kinds: [(&str, Kind, u64); 13] = [
+        ("orders of parameters", parameters::run, 0),
         ("uniform", uniform::run, options.cases),
         ("Bernoulli", bernoulli::run, options.cases),
         ("hash", hash::run, options.cases / 20),

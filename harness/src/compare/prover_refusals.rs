@@ -121,7 +121,7 @@ pub fn check(block: &mut Block, given: &Given) -> Checked {
         return searches::check(block, settings, list).map(|_| ());
     };
     if due == ffi::NOT_ENOUGH {
-        let theirs = crate::original::prove(settings, &list.elements());
+        let theirs = searches::due(settings, list)?.number;
         if theirs != due {
             return Err(format!("  {settings:?}\n{}  due: {due}\n  the Rust: {theirs}\n", shown_list(list)));
         }

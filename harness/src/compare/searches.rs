@@ -1,9 +1,17 @@
-//! `alba_prove` against the Rust's search, and what it leaves in every lent buffer against the specification's words.
+//! `alba_prove` against the Rust: the outcome against `Telescope::prove`, the step count against `prove_routine`; and what it leaves in
+//! every lent buffer against the specification's words.
 
 use super::blocks::{self, Block};
 use super::fence::Fenced;
 use super::{bernoulli, rules, shown_list, verdicts, Checked, Run};
-use crate::{ffi, ffi::Settings, list::List, original, rng::Rng};
+use crate::{
+    ffi,
+    ffi::Settings,
+    list::{List, Placed},
+    original,
+    original::ProofOf,
+    rng::Rng,
+};
 
 /// Searches of one list, and of such a family, in a block.
 const FAMILY: u64 = 4;
@@ -12,6 +20,7 @@ const BLOCK: u64 = 64;
 const COMPLETENESS: f64 = 128.0;
 
 /// What a search came to: its number, and where there is a proof its counters and places.
+#[derive(Debug, PartialEq)]
 pub struct Outcome {
     pub number: u32,
     pub retry_counter: u64,
@@ -76,11 +85,8 @@ pub fn check_and_verify(block: &mut Block, s: &Settings, list: &List) -> Result<
 
 /// One search of a list that both serve: number, counters, count and places, the bin table, and that nothing else has changed.
 pub fn check(block: &mut Block, s: &Settings, list: &List) -> Result<Outcome, String> {
-    let due = due(s, list);
-    let table = match s.max_retries {
-        0 => Vec::new(),
-        last => rules::bin_table(list, s.set_size, if due.number == 0 { due.retry_counter } else { last }),
-    };
+    let due = due(s, list)?;
+    let table = table_after(s, list, &due);
     let rng = &mut block.rng;
     let (places_len, bins_len) = (s.proof_size as usize + more(rng), 3 * s.set_size as usize + 1 + more(rng));
     let out_len = if rng.below(16) == 0 { rng.below(3) as usize } else { 3 + more(rng) };
@@ -109,9 +115,25 @@ pub fn check(block: &mut Block, s: &Settings, list: &List) -> Result<Outcome, St
     Ok(due)
 }
 
-/// What the Rust finds. Its proof's elements know their places.
-pub fn due(s: &Settings, list: &List) -> Outcome {
-    let (count, answer) = original::search(s, &list.elements());
+/// What the Rust answers, 10 for too few elements too: what comes out as its users get it, the count from its routine, which must come
+/// to the same. Too few elements only the users' call refuses, so the routine isn't asked then, and the count is a refusal's, 0.
+pub fn due(s: &Settings, list: &List) -> Result<Outcome, String> {
+    let elements = list.elements();
+    let answer = original::prove(s, &elements);
+    if let Err(number @ ffi::NOT_ENOUGH) = answer {
+        return Ok(outcome(0, Err(number)));
+    }
+    let (count, by_routine) = original::prove_routine(s, &elements);
+    let (by_users, by_routine) = (outcome(count, answer), outcome(count, by_routine));
+    if by_users != by_routine {
+        let list = shown_list(list);
+        return Err(format!("  {s:?}\n{list}  the Rust's `Telescope::prove`: {by_users:?}\n  its `prove_routine`: {by_routine:?}\n"));
+    }
+    Ok(by_users)
+}
+
+/// The Rust's answer with a step count. A proof's elements know their places.
+fn outcome(count: u64, answer: Result<ProofOf<Placed>, u32>) -> Outcome {
     match answer {
         Ok(proof) => Outcome {
             number: 0,
@@ -121,6 +143,14 @@ pub fn due(s: &Settings, list: &List) -> Outcome {
             places: proof.element_sequence.iter().map(|element| element.data.place).collect(),
         },
         Err(number) => Outcome { number, retry_counter: 0, search_counter: 0, count, places: Vec::new() },
+    }
+}
+
+/// The bin table after a search: that of the last try made, none where there was no try.
+pub fn table_after(s: &Settings, list: &List, came_to: &Outcome) -> Vec<u32> {
+    match s.max_retries {
+        0 => Vec::new(),
+        last => rules::bin_table(list, s.set_size, if came_to.number == 0 { came_to.retry_counter } else { last }),
     }
 }
 

@@ -66,7 +66,7 @@ pub fn check(rng: &mut Rng, u: u64, c: f64, length: usize) -> Answered {
 }
 
 /// The number, and what is then written.
-fn due(u: u64, c: f64, length: usize) -> (u32, Vec<u64>) {
+pub fn due(u: u64, c: f64, length: usize) -> (u32, Vec<u64>) {
     if length != FIGURES {
         return (ffi::BAD_LENGTH, Vec::new());
     }

@@ -14,7 +14,7 @@ const BLOCK: u64 = 100;
 
 pub fn run(run: &mut Run, cases: u64) -> Checked {
     blocks::run(run, cases.div_ceil(BLOCK), |_, block| {
-        let proof = any_proof(&mut block.rng);
+        let proof = any_proof(&mut block.rng)?;
         (0..BLOCK).try_for_each(|_| check_with_faults(block, &proof))
     })?;
     let listed = listed();
@@ -42,7 +42,7 @@ pub fn check_with_faults(block: &mut Block, proof: &Claim) -> Checked {
 }
 
 /// A proof that the Rust found, so that a refusal comes from the fault alone.
-pub fn any_proof(rng: &mut Rng) -> Claim {
+pub fn any_proof(rng: &mut Rng) -> Result<Claim, String> {
     loop {
         let settings = Settings {
             set_size: 1 + rng.below(9),
@@ -53,9 +53,9 @@ pub fn any_proof(rng: &mut Rng) -> Claim {
             q: 0.3,
         };
         let list = searches::any_list(rng, settings.set_size as usize);
-        let found = searches::due(&settings, &list);
+        let found = searches::due(&settings, &list)?;
         if found.number == 0 && found.retry_counter < settings.max_retries {
-            return Claim::of(&settings, &list, &found);
+            return Ok(Claim::of(&settings, &list, &found));
         }
     }
 }
@@ -86,7 +86,7 @@ fn listed() -> Vec<Claim> {
 
 /// Every length of ends and of indexes up to two numbers more than there are.
 fn every_cut(block: &mut Block) -> Checked {
-    let claim = any_proof(&mut block.rng);
+    let claim = any_proof(&mut block.rng)?;
     let whole = claim.list.written();
     for len in 0..=whole.ends.len() + 8 {
         let mut written = whole.clone();
@@ -102,7 +102,7 @@ fn every_cut(block: &mut Block) -> Checked {
 }
 
 /// The number due before the proof is looked at, or the list that the bytes write.
-fn due(settings: &Settings, written: &Written) -> Result<List, u32> {
+pub fn due(settings: &Settings, written: &Written) -> Result<List, u32> {
     rules::settings(settings)?;
     let list = written.read().ok_or(ffi::BAD_LIST)?;
     rules::list(&list)?;

@@ -85,7 +85,8 @@ fn any_counter(rng: &mut Rng, limit: u64) -> u64 {
     }
 }
 
-/// Brings a search of a list to about so many blocks of hashing on each side at most, and gives the greatest bound that keeps to it.
+/// Brings a search of a list to about so many blocks of hashing at most, and gives the greatest bound that keeps to it. The library makes
+/// the search once and the Rust twice.
 ///
 /// A try hashes the kept elements for its bins, and one element or counter for each step, of which the bound admits so many; the Rust
 /// copies a chain at each step as well. Tries times that is the work, so these never come together: very many tries with a large set or

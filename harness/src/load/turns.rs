@@ -146,7 +146,7 @@ fn random_proof(block: &mut Block) -> Checked {
 
 /// Up to three faults, in turn in a proof that was found and in random elements.
 fn bad_to_verify(block: &mut Block) -> Checked {
-    for claim in [verifier_refusals::any_proof(&mut block.rng), draws::any_claim(&mut block.rng)] {
+    for claim in [verifier_refusals::any_proof(&mut block.rng)?, draws::any_claim(&mut block.rng)] {
         (0..COPIES).try_for_each(|_| verifier_refusals::check_with_faults(block, &claim))?;
     }
     Ok(())

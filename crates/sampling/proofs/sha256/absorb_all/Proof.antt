@@ -1,9 +1,11 @@
 -- `absorb_all`: by where the block that is being filled ends.
-use Prim.Native.Nat.{_-_, _%_}
+use mathlib.Core.Path.{_≡_, _∙_}
+use Prim.Native.Nat.{_+_, _-_, _%_}
 use native.Mathlib.Omega.{arith}
 use borrow.Author.Needs.{needs}
 use lib.ListN.{length-take, length-drop}
-use Rattle.sampling.proofs.Absorbing.{two}
+use lib.Seq.{length-take-le}
+use Rattle.sampling.proofs.Absorbing.{len-after, in-two}
 use Rattle.sampling.proofs.sha256.absorb_all.Statement.{statement}
 use Rattle.sampling.proofs.sha256.absorb_all.Tie as tie
 
@@ -39,14 +41,16 @@ part-absorb-aligned-end c = search needs
 
 absorb-aligned-requires-2 : tie.Need-absorb-aligned-requires-2
 absorb-aligned-requires-2 c κs =
-    let e = simp length-take at (c .before .absorb-end .ensures .count) in
+    let h = c .before .absorb-end in
+    let z = c .before .before .before .before .before .before .before .args in
+    let e : h .result .len ≡ z .h .len + (64 - z .h .len % 64) = len-after (z .h) (h .result) _ (h .ensures) ∙ rw (length-take-le (64 - z .h .len % 64) (z .s .now) (omega arith)) in
     (omega arith, simp (length-take, length-drop) (omega arith))
 
 returns-3 : tie.Need-returns-3
 returns-3 c =
     let z = c .before .before .before .before .before .before .before .before .args in
     let h = c .before .before .absorb-end in
-    two (z .h) (h .result) (c .absorb-aligned2 .result) (z .s .now) (64 - z .h .len % 64) (omega arith) (h .ensures) (c .absorb-aligned2 .ensures)
+    in-two (z .h) (h .result) (c .absorb-aligned2 .result) (z .s .now) (64 - z .h .len % 64) (h .ensures) (c .absorb-aligned2 .ensures)
 
 pub absorb-all-spec : {M : Type 1} → statement M
 absorb-all-spec =

@@ -1,25 +1,28 @@
--- `absorb_blocks`: after o bytes the hash value has taken in as many blocks more.
-use mathlib.Core.Path.{_≡_, refl}
-use mathlib.Core.List.{List, _++_}
-use Prim.Native.Nat.{ℕ, _+_, _-_, _/_, _%_, _≤_}
+-- `absorb_blocks`: after o bytes the hash value is that after the first o bytes of the string.
+use mathlib.Core.Path.{_≡_, refl, sym, ap}
+use mathlib.Core.List.{List}
+use Prim.Native.Nat.{ℕ, _-_, _%_, _≤_}
 use native.Mathlib.Omega.{arith}
 use borrow.Author.Needs.{needs}
-use lib.ListN.{length}
-use Rattle.sampling.specs.Fips180.{hashValue}
-use Rattle.sampling.proofs.Absorbing.{none-done, one-done, all-done}
+use lib.ListN.{length, take}
+use lib.Seq.{take-length}
+use Rattle.sampling.specs.Hasher.{absorbBytes}
+use Rattle.sampling.specs.HasherLaws.{one-block, whole-blocks}
+use Rattle.sampling.specs.declared.sha256.Hasher.{Hasher}
 use Rattle.sampling.proofs.sha256.absorb_blocks.Statement.{statement}
 use Rattle.sampling.proofs.sha256.absorb_blocks.Tie as tie
 
 abbrev Inv-loop : tie.InvT-loop
-Inv-loop s state₀ len block o₀ state o =
+Inv-loop s state₀ len o₀ state o =
     (o ≤ length s) × (o % 64 ≡ 0)
-    × ((m : List ℕ) → length m % 64 ≡ 0 → state₀ ≡ hashValue m (length m / 64) → state ≡ hashValue (m ++ s) ((length m + o) / 64))
+    × ((b : List ℕ) → length b ≡ 64 → state ≡ absorbBytes (record { state = state₀; block = b; len = len }) (take o s) .state)
 
 abbrev μ-loop : tie.MeasureT-loop
-μ-loop s state₀ len block o₀ state o = length s - o
+μ-loop s state₀ len o₀ state o = length s - o
 
 loop-holds : tie.Need-loop-holds Inv-loop μ-loop
-loop-holds c = (search needs, search needs, λ m z e. none-done m _ z _ e)
+unfolding absorbBytes
+loop-holds c = (search needs, search needs, λ b l. refl)
 
 block-at-requires : tie.Need-block-at-requires Inv-loop μ-loop
 block-at-requires c κs = search needs
@@ -35,22 +38,27 @@ loop-less c = search needs
 
 loop-again : tie.Need-loop-again Inv-loop μ-loop
 loop-again c =
-    let l = c .before .before .before .loop in
-    (search needs, search needs, λ m z e. one-done m _ z (l .o) _ (l .state) _ (l .inv .1) (l .inv .2 m z e) (c .before .block-at .ensures) (c .compress .ensures))
+    let a = c .before .before .before .before .before .before in
+    let i = c .before .before .before .loop in (
+      search needs,
+      search needs,
+      λ b l.
+          rw (c .compress .ensures, c .before .block-at .ensures, i .inv .2 b l)
+          (sym
+          (ap (λ (h : Hasher). h .state)
+          (one-block (record { state = a .args .h .state; block = b; len = a .args .h .len }) (a .args .s .now) l (a .pre .0) (i .o) (i .inv .1) (omega arith)))),
+    )
 
 add-t11 : tie.Need-add-t11 Inv-loop μ-loop
 add-t11 c = search needs
 
 returns : tie.Need-returns Inv-loop μ-loop
 returns c =
-    let l = c .before .loop in
-    let a = c .before .before .before .before .before in
-    record {
-      count = refl;
-      holds = λ m i.
-          let z : length m % 64 ≡ 0 = omega (arith, i .count, a .pre .0) in
-          all-done m (a .args .s .now) z (l .o) _ (l .state) _ (omega arith) (l .inv .1) (i .count) (l .inv .2 m z (i .value));
-    }
+    let a = c .before .before .before .before in
+    let h = a .args .h in
+    let l : length (h .block) ≡ 64 = search needs in
+    let e : c .before .loop .o ≡ length (a .args .s .now) = omega arith in
+    rw (rw (e, take-length (a .args .s .now)) at (c .before .loop .inv .2 (h .block) l)) (sym (whole-blocks h (a .args .s .now) l (a .pre .0) (a .pre .1) (a .pre .2)))
 
 pub absorb-blocks-spec : {M : Type 1} → statement M
 absorb-blocks-spec =

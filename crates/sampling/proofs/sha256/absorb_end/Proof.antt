@@ -1,7 +1,7 @@
 -- `absorb_end`: the string fills the block, and the block goes into the hash value.
-use mathlib.Core.Path.{refl}
+use mathlib.Core.Path.{sym}
 use borrow.Author.Needs.{needs}
-use Rattle.sampling.proofs.Absorbing.{end}
+use Rattle.sampling.specs.HasherLaws.{fills-block}
 use Rattle.sampling.proofs.sha256.absorb_end.Statement.{statement}
 use Rattle.sampling.proofs.sha256.absorb_end.Tie as tie
 
@@ -17,19 +17,14 @@ block-at-requires c κs = search needs
 compress-requires : tie.Need-compress-requires
 compress-requires c κs = search needs
 
-add-t13 : tie.Need-add-t13
-add-t13 c = search needs
+add-t14 : tie.Need-add-t14
+add-t14 c = search needs
 
 returns : tie.Need-returns
 returns c =
     let a = c .before .before .before .before .before .before .before in
-    let b = c .before .before .before .with-bytes in
-    record {
-      count = refl;
-      holds = λ m i.
-          end m (a .args .s .now) (a .args .h) i (b .result) (b .ensures) _ (c .compress .result) (a .pre .0) (search needs)
-          (c .before .block-at .ensures) (c .compress .ensures);
-    }
+    rw (c .compress .ensures, c .before .block-at .ensures, c .before .before .before .with-bytes .ensures)
+    (sym (fills-block (a .args .h) (a .args .s .now) (a .pre .0)))
 
 pub absorb-end-spec : {M : Type 1} → statement M
 absorb-end-spec =
@@ -39,5 +34,5 @@ absorb-end-spec =
     slice-aggregate-block-at
     block-at-requires
     compress-requires
-    add-t13
+    add-t14
     returns)

@@ -1,7 +1,7 @@
 -- `absorb_part`: the string stays in the block that is being filled.
-use mathlib.Core.Path.{refl}
+use mathlib.Core.Path.{sym}
 use borrow.Author.Needs.{needs}
-use Rattle.sampling.proofs.Absorbing.{part}
+use Rattle.sampling.specs.HasherLaws.{within-block}
 use Rattle.sampling.proofs.sha256.absorb_part.Statement.{statement}
 use Rattle.sampling.proofs.sha256.absorb_part.Tie as tie
 
@@ -13,8 +13,8 @@ add-t8 c = search needs
 
 returns : tie.Need-returns
 returns c =
-    let z = c .before .before .before .before .args in
-    record { count = refl; holds = λ m i. part m (z .s .now) (z .h) i (c .with-bytes .result) (c .with-bytes .ensures) (c .before .before .before .before .pre .0) }
+    let a = c .before .before .before .before in
+    rw (c .with-bytes .ensures) (sym (within-block (a .args .h) (a .args .s .now) (a .pre .0)))
 
 pub absorb-part-spec : {M : Type 1} → statement M
 absorb-part-spec = tie.close (tie.spec with-bytes-requires add-t8 returns)

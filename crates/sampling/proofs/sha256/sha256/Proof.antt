@@ -1,9 +1,8 @@
 -- `sha256`: four strings absorbed into an empty hasher.
-use mathlib.Core.Path.{_∙_, ap}
-use mathlib.Core.List.{[]}
+use mathlib.Core.Path.{_∙_}
+use mathlib.Core.List.{append-assoc}
 use borrow.Author.Needs.{needs}
-use Rattle.sampling.specs.Hash.{hashed}
-use Rattle.sampling.proofs.Padding.{four}
+use Rattle.sampling.specs.HasherLaws.{absorbed-twice, absorbed-hashes}
 use Rattle.sampling.proofs.sha256.sha256.Statement.{statement}
 use Rattle.sampling.proofs.sha256.sha256.Tie as tie
 
@@ -27,10 +26,15 @@ finish-requires c κs = search needs
 
 returns : tie.Need-returns
 returns c =
-    let z = c .before .before .before .before .before .before .before .before .before .before .args in
-    c .finish .ensures _
-    (c .before .absorb4 .ensures _ (c .before .before .absorb3 .ensures _ (c .before .before .before .absorb2 .ensures _ (c .before .before .before .before .absorb .ensures [] (c .before .before .before .before .before .new .ensures)))))
-    ∙ ap hashed (four (z .a .now) (z .b .now) (z .c .now) (z .d .now))
+    c .finish .ensures
+    ∙ rw (
+      c .before .absorb4 .ensures,
+      c .before .before .absorb3 .ensures,
+      c .before .before .before .absorb2 .ensures,
+      c .before .before .before .before .absorb .ensures,
+      c .before .before .before .before .before .new .ensures,
+    )
+    (simp (absorbed-twice, append-assoc) (absorbed-hashes _))
 
 pub sha256-spec : {M : Type 1} → statement M
 sha256-spec =

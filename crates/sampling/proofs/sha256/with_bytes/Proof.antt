@@ -1,4 +1,5 @@
 -- `with_bytes`: the copy, in the part of the block that starts at `at`.
+use Prim.Native.Nat.{_-_}
 use native.Mathlib.Omega.{arith}
 use borrow.Author.Needs.{needs}
 use Rattle.sampling.proofs.Written.{copied-in}
@@ -20,7 +21,7 @@ copy-requires c κs = search needs
 returns : tie.Need-returns
 returns c =
     let z = c .before .before .before .before .args in
-    copied-in (z .block) (z .s .now) _ _ _ (z .at) (omega arith) (c .before .copy .ensures .1)
+    copied-in (z .block) (z .s .now) _ (z .at) (64 - z .at) (search needs) (omega arith) (c .before .copy .ensures .1)
 
 pub with-bytes-spec : {M : Type 1} → statement M
 with-bytes-spec = tie.close (tie.spec sub-copy part-out-start part-out-end copy-requires returns)

@@ -1,20 +1,24 @@
--- `absorb`: by the limit: past it already, past it now, or taken.
+-- `absorb`: past the limit, or taken.
+use mathlib.Core.Logic.{⊎-elim}
+use mathlib.Core.Path.{sym, _∙_}
+use native.Mathlib.Omega.{arith}
 use borrow.Author.Needs.{needs}
-use Rattle.sampling.proofs.Absorbing.{stays, passes, taken}
+use borrow.Author.Tests.{ltb-true, ltb-false}
+use Rattle.sampling.specs.HasherLaws.{absorbed-within, absorbed-over}
 use Rattle.sampling.proofs.sha256.Hasher.absorb.Statement.{statement}
 use Rattle.sampling.proofs.sha256.Hasher.absorb.Tie as tie
 
-returns : tie.Need-returns
-returns c = λ m a. stays m (c .before .before .args .s .now) (c .before .before .args .self) a (c .if1 .taken)
+too-long-requires : tie.Need-too-long-requires
+too-long-requires c κs = search needs
 
-returns-2 : tie.Need-returns-2
-returns-2 c = λ m a. passes m (c .before .before .before .before .before .args .s .now) (c .before .before .before .before .before .args .self) _ a (c .before .before .if2 .taken) (search needs)
+returns : tie.Need-returns
+returns c = c .too-long .ensures ∙ sym (absorbed-over _ _ (⊎-elim (λ h. omega arith) (λ h. omega (arith, ltb-true)) (c .before .if1 .came)))
 
 absorb-all-requires : tie.Need-absorb-all-requires
-absorb-all-requires c κs = search needs
+absorb-all-requires c κs = omega (arith, ltb-false)
 
-returns-3 : tie.Need-returns-3
-returns-3 c = λ m a. taken m (c .before .before .before .before .args .s .now) (c .before .before .before .before .args .self) (c .absorb-all .result) a (c .absorb-all .ensures)
+returns-2 : tie.Need-returns-2
+returns-2 c = c .absorb-all .ensures ∙ sym (absorbed-within _ _ (omega (arith, ltb-false)))
 
 pub absorb-spec : {M : Type 1} → statement M
-absorb-spec = tie.close (tie.spec returns returns-2 absorb-all-requires returns-3)
+absorb-spec = tie.close (tie.spec too-long-requires returns absorb-all-requires returns-2)

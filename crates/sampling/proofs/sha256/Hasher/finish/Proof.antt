@@ -1,15 +1,16 @@
 -- `finish`: by the limit: number 9, or the padding absorbed like any string.
-use mathlib.Core.Path.{ap, _∙_}
+use mathlib.Core.Path.{sym, ap, _∙_}
 use native.Mathlib.Omega.{arith}
 use borrow.Author.Needs.{needs}
 use lib.ListN.{length, length-take}
 use Rattle.sampling.specs.BigEndianLaws.{length-bytesOf}
-use Rattle.sampling.proofs.Padding.{too-long, finished}
+use Rattle.sampling.specs.HasherLaws.{finished-over}
+use Rattle.sampling.proofs.Absorbing.{len-after, digested}
 use Rattle.sampling.proofs.sha256.Hasher.finish.Statement.{statement}
 use Rattle.sampling.proofs.sha256.Hasher.finish.Tie as tie
 
 returns : tie.Need-returns
-returns c = λ m a. too-long m (c .before .args .self) a (c .if1 .taken)
+returns c = sym (finished-over (c .before .args .self) (omega arith))
 
 array-write-start : tie.Need-array-write-start
 array-write-start c = search needs
@@ -40,18 +41,20 @@ slice-aggregate-absorb-all-2 c = search needs
 
 absorb-all-requires-2 : tie.Need-absorb-all-requires-2
 absorb-all-requires-2 c κs =
-    let e = simp length-take at (c .before .absorb-all .ensures .count) in
+    let h = c .before .absorb-all in
+    let e = simp length-take at (len-after _ (h .result) _ (h .ensures)) in
     omega (arith, ap length (c .before .before .before .eight-bytes .ensures) ∙ length-bytesOf 8 _)
 
 digest-of-requires : tie.Need-digest-of-requires
 digest-of-requires c κs = search needs
 
 returns-2 : tie.Need-returns-2
-returns-2 c = λ m a.
-    let z = c .before .before .before .before .before .before .before .before .args .self in
+returns-2 c =
     let k = c .before .before .before .before .before .before .zeros-of in
-    finished m (c .before .before .before .before .before .eight-bytes .result) (k .result) z (c .before .before .before .absorb-all .result) (c .before .absorb-all2 .result) a (omega arith) (k .ensures .0) (k .ensures .1)
-    (c .before .before .before .before .before .eight-bytes .ensures) (c .before .before .before .absorb-all .ensures) (c .before .absorb-all2 .ensures) (c .digest-of .ensures)
+    let b = c .before .before .before .before .before .eight-bytes in
+    digested (b .result) (k .result) (c .before .before .before .before .before .before .before .before .args .self) (c .before .before .before .absorb-all .result)
+    (c .before .absorb-all2 .result) (omega arith) (k .ensures .0) (k .ensures .1) (b .ensures) (c .before .before .before .absorb-all .ensures)
+    (c .before .absorb-all2 .ensures) (c .digest-of .ensures)
 
 pub finish-spec : {M : Type 1} → statement M
 finish-spec =

@@ -1,0 +1,103 @@
+-- Cases a to l: the sampler's and the small case's are computed, the searches' counted without a hash.
+use mathlib.Core.Path.{_≡_, refl, sym, ap, _∙_}
+use mathlib.Core.Bool.{false, cond}
+use mathlib.Core.List.{List}
+use mathlib.Core.Option.{Option, none}
+use Prim.Native.Nat.{ℕ, _*_, min}
+use native.Mathlib.Omega.{arith}
+use lib.Dec.{leb}
+use lib.Ieee.{Float, isNan, lt, ofInt, round, add, mul, div}
+use lib.ListN.{length, take, length-take}
+use Rattle.sampling.specs.BigEndian.{bigEndian}
+use Rattle.sampling.specs.Sample.{isPower, modNotPower, uniform, outside, threshold, bernoulli}
+use Rattle.sampling.specs.SampleLaws.{drawn-of-one}
+use Rattle.centralized_telescope.specs.declared.params.Params.{Params}
+use Rattle.centralized_telescope.specs.Params.{notOneTo, whole, L, floor, ceil, beforeCeil, searchWidth, beforeFloor, dfsBound, proofSizeOut, completenessOut, smallCase, smallSettings}
+use Rattle.centralized_telescope.specs.SmallCaseLaws.{settings-given}
+use Rattle.centralized_telescope.specs.Elements.{Element, elements}
+use Rattle.centralized_telescope.specs.ElementsLaws.{length-elements}
+use Rattle.centralized_telescope.specs.Lists.{Each}
+use Rattle.centralized_telescope.specs.Chains.{Chain, tryOf}
+use Rattle.centralized_telescope.specs.Prover.{served, answered}
+use Rattle.centralized_telescope.specs.Search.{tryFinds, searched}
+use Rattle.centralized_telescope.specs.OneBinLaws.{treeSize, count-whole, none-found, tries-find-none, tries-count, never-yes}
+use Rattle.centralized_telescope.specs.AllCases.{Holds, settingsOf, Ends, cases, AllCases}
+use Rattle.centralized_telescope.proofs.ProveAnswers.{served-so}
+
+-- ---- h
+
+small : (u d bound : ℕ) → proofSizeOut u ≡ false → searchWidth u ≡ d → dfsBound u (searchWidth u) ≡ bound
+    → (c : Float) → completenessOut c ≡ false
+    → (smallCase u c .0 ≡ 0) × (smallCase u c .1 .«search_width» ≡ d) × (smallCase u c .1 .«dfs_bound» ≡ bound)
+unfolding smallSettings
+small u d bound s w b c o = rw (settings-given u c s o) (refl, w, b)
+
+-- ---- i to l
+
+module _ (size width retries bound : ℕ) where
+  abbrev p : Params
+  p = settingsOf size width retries bound
+
+  -- the count where m elements are kept: of each try all its chains, or the bound
+  abbrev counted : ℕ → ℕ
+  counted m = retries * min (width * treeSize m size) bound
+
+  module _ (es : List Element) where
+    finds : (R : ℕ) → tryFinds (tryOf p es R) ≡ none
+    finds R = none-found (tryOf p es R) refl never-yes
+
+    proof-is : searched p es .proof ≡ none
+    unfolding searched
+    proof-is = tries-find-none p es finds retries 0 0
+
+    count-is : searched p es .count ≡ counted (length (take 2 es))
+    unfolding searched
+    count-is = tries-count p es finds _ (λ R. count-whole (tryOf p es R) refl never-yes) retries 0 0 ∙ omega arith
+
+  answered-none : (o : Option Chain) (R sum : ℕ) (places table : List ℕ) → o ≡ none
+      → (answered p o R sum places table .number ≡ cond (leb bound sum) 11 12) × (answered p o R sum places table .count ≡ sum)
+  unfolding answered
+  answered-none o R sum places table e = rw e (refl, refl)
+
+  run-ends : (n number count : ℕ) → count ≡ counted (min 2 n) → number ≡ cond (leb bound count) 11 12 → Ends p n number count
+  unfolding served
+  run-ends n number count C N bytes ends marks indexes places table S E =
+      let es = elements bytes ends marks indexes in
+      let kept : length (take 2 es) ≡ min 2 n =
+      length-take 2 es ∙ ap (λ (k : ℕ). min 2 k) (length-elements bytes ends marks indexes (S .list) ∙ E) in
+      let sum : searched p es .count ≡ count = count-is es ∙ ap counted kept ∙ sym C in
+      let a = answered-none (searched p es .proof) (searched p es .made) (searched p es .count) places _ (proof-is es) in
+      rw (served-so p bytes ends marks indexes places table S) (a .0 ∙ ap (λ (k : ℕ). cond (leb bound k) 11 12) sum ∙ sym N, a .1 ∙ sum)
+
+-- ---- all of them
+
+infixr 10 _&_
+abbrev _&_ : {A B : Type 0} → A → B → A × B
+a & b = (a, b)
+
+pub all-cases : AllCases
+unfolding Each cases Holds isNan lt ofInt round add mul div bigEndian isPower modNotPower uniform outside threshold bernoulli notOneTo whole L floor ceil beforeCeil searchWidth beforeFloor dfsBound treeSize
+all-cases =
+    refl
+    & drawn-of-one
+    & refl
+    & refl
+    & refl
+    & refl
+    & refl
+    & refl
+    & refl
+    & refl
+    & refl
+    & refl
+    & small 1 80 515 refl refl refl
+    & small 200 15904 10291586 refl refl refl
+    & run-ends 2 1 3 100 1 12 9 refl refl
+    & run-ends 2 1 3 9 1 11 9 refl refl
+    & run-ends 2 1 1 100 2 12 7 refl refl
+    & run-ends 2 1 1 4 2 11 4 refl refl
+    & run-ends 0 2 1 5 1 12 2 refl refl
+    & run-ends 0 2 1 2 1 11 2 refl refl
+    & (λ u w. run-ends u w 0 0 1 11 0 (omega arith) refl)
+    & (λ u w. run-ends u w 0 1 1 12 0 (omega arith) refl)
+    & tt

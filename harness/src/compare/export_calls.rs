@@ -1,0 +1,195 @@
+//! Each export with arguments whose answer is known, made by the library and worked out by the Rust and the specification's table.
+
+use super::parameters::Args;
+use super::searches::Outcome;
+use super::verdicts::Claim;
+use super::{rules, searches, small_case, verifier_refusals};
+use crate::{
+    ffi,
+    ffi::{Listed, Settings},
+    list::{List, Written},
+    original,
+    original::ProofOf,
+    rng::Rng,
+};
+use sha2::{Digest, Sha256};
+
+pub struct Export {
+    pub name: &'static str,
+    pub args: Args,
+    /// What the arguments are answered.
+    pub answer: u32,
+    /// The call.
+    pub ours: fn(&mut Args) -> u32,
+    /// The number that is due, with what is due in each slice after the call.
+    pub due: fn(&mut Args) -> Result<u32, String>,
+}
+
+/// Whether the arguments tell the parameters apart is no matter of chance: they are the same in each run.
+const SEED: u64 = 0x43_c389_a516;
+
+pub fn all() -> Result<Vec<Export>, String> {
+    Ok(vec![uniform(), bernoulli(), hash(), small(), distinct(), prove()?, verify()?])
+}
+
+/// Parameters: h, n, out.
+fn uniform() -> Export {
+    let args = Args { numbers: vec![1000], bytes: vec![(1..=16).collect(), vec![0xa5; 8]], ..Args::default() };
+    let ours = |args: &mut Args| {
+        let [h, out] = &mut args.bytes[..] else { unreachable!("two slices of bytes") };
+        ffi::sample_uniform(Some(h), args.numbers[0], &mut out[..])
+    };
+    let due = |args: &mut Args| {
+        let [h, out] = &mut args.bytes[..] else { unreachable!("two slices of bytes") };
+        let (Ok(h), 8) = (<&[u8; 16]>::try_from(&h[..]), out.len()) else {
+            return Ok(ffi::BAD_LENGTH);
+        };
+        let value = oracle::sample_uniform(h, args.numbers[0]);
+        value.iter().for_each(|value| out.copy_from_slice(&value.to_be_bytes()));
+        Ok(value.map_or(ffi::NO_DRAW, |_| 0))
+    };
+    Export { name: "alba_sample_uniform", args, answer: 0, ours, due }
+}
+
+/// Parameters: h, q.
+fn bernoulli() -> Export {
+    let args = Args { double: 0.3, bytes: vec![(1..=16).collect()], ..Args::default() };
+    let ours = |args: &mut Args| ffi::sample_bernoulli(Some(&args.bytes[0]), args.double);
+    let due = |args: &mut Args| Ok(u32::from(oracle::sample_bernoulli(args.bytes[0][..].try_into().expect("16 bytes"), args.double)));
+    Export { name: "alba_sample_bernoulli", args, answer: 1, ours, due }
+}
+
+/// Parameters: four strings and out.
+fn hash() -> Export {
+    let bytes = ["a", "bc", "def", "ghij"].iter().map(|string| string.as_bytes().to_vec()).chain([vec![0xa5; 32]]).collect();
+    let ours = |args: &mut Args| {
+        let [a, b, c, d, out] = &mut args.bytes[..] else { unreachable!("five slices of bytes") };
+        ffi::sha256([Some(a), Some(b), Some(c), Some(d)], &mut out[..])
+    };
+    let due = |args: &mut Args| {
+        let [strings @ .., out] = &mut args.bytes[..] else { unreachable!("five slices of bytes") };
+        if out.len() != 32 {
+            return Ok(ffi::BAD_LENGTH);
+        }
+        out.copy_from_slice(&Sha256::digest(strings.concat()));
+        Ok(0)
+    };
+    Export { name: "alba_sha256", args: Args { bytes, ..Args::default() }, answer: 0, ours, due }
+}
+
+/// Parameters: u, c, out.
+fn small() -> Export {
+    let args = Args { numbers: vec![200], double: 128.0, longs: vec![vec![7; small_case::FIGURES]], ..Args::default() };
+    let ours = |args: &mut Args| ffi::small_case(args.numbers[0], args.double, &mut args.longs[0][..]);
+    let due = |args: &mut Args| {
+        let (number, written) = small_case::due(args.numbers[0], args.double, args.longs[0].len());
+        args.longs[0][..written.len()].copy_from_slice(&written);
+        Ok(number)
+    };
+    Export { name: "alba_small_case", args, answer: 0, ours, due }
+}
+
+/// Parameters: data, ends, marks, indexes. The data are lawful marks and the marks lawful data, the one distinct and the others not.
+fn distinct() -> Export {
+    let args = Args { bytes: vec![vec![0, 1], vec![1, 1]], words: vec![vec![1, 2]], longs: vec![vec![8, 9]], ..Args::default() };
+    let ours = |args: &mut Args| ffi::check_distinct(list_of(args).lent());
+    let due = |args: &mut Args| {
+        let list = list_of(args);
+        Ok(rules::list(&list).map_or_else(|number| number, |()| if oracle::check_distinct(&list.elements()) { 0 } else { ffi::REPEATED }))
+    };
+    Export { name: "alba_check_distinct", args, answer: 0, ours, due }
+}
+
+/// Parameters: set_size, proof_size, max_retries, search_width, dfs_bound, q, data, ends, marks, indexes, places, bins, out. Workspace is
+/// enough in most orders of the settings, so that they are searches too.
+fn prove() -> Result<Export, String> {
+    let s = Settings { set_size: 5, proof_size: 3, max_retries: 9, search_width: 4, dfs_bound: 60, q: 0.005 };
+    // The try that finds is past search_width, so that the retries can't be as few.
+    let (list, _) = found(&s, |found| found.retry_counter > 4)?;
+    let args = Args {
+        numbers: vec![s.set_size, s.proof_size, s.max_retries, s.search_width, s.dfs_bound],
+        double: s.q,
+        bytes: vec![list.data, list.marks],
+        words: vec![list.ends, vec![0xa5a5; 100], vec![0x5a5a; 200]],
+        longs: vec![list.indexes, vec![7; 4]],
+    };
+    let ours = |args: &mut Args| {
+        let (s, bytes) = (settings(args), &args.bytes);
+        let ([ends, places, bins], [indexes, out]) = (&mut args.words[..], &mut args.longs[..]) else { unreachable!("three and two") };
+        let list = Listed { data: Some(&bytes[0]), ends: Some(ends), marks: Some(&bytes[1]), indexes: Some(indexes) };
+        ffi::prove(&s, list, &mut places[..], &mut bins[..], &mut out[..])
+    };
+    Ok(Export { name: "alba_prove", args, answer: 0, ours, due: prove_due })
+}
+
+fn prove_due(args: &mut Args) -> Result<u32, String> {
+    let (s, list) = (settings(args), list_of(args));
+    let ([_, places, bins], [_, out]) = (&mut args.words[..], &mut args.longs[..]) else { unreachable!("three and two") };
+    let (number, result) = match rules::prover(&s, &list, places.len(), bins.len()) {
+        Err(number) => (number, [0; 3]),
+        Ok(()) => {
+            let due = searches::due(&s, &list)?;
+            let table = searches::table_after(&s, &list, &due);
+            places[..due.places.len()].copy_from_slice(&due.places);
+            bins[..table.len()].copy_from_slice(&table);
+            (due.number, [due.retry_counter, due.search_counter, due.count])
+        }
+    };
+    if let Some(first) = out.first_chunk_mut() {
+        *first = result;
+    }
+    Ok(number)
+}
+
+/// Parameters: set_size, proof_size, max_retries, search_width, dfs_bound, q, retry_counter, search_counter, data, ends, marks, indexes.
+fn verify() -> Result<Export, String> {
+    let s = Settings { set_size: 11, proof_size: 5, max_retries: 7, search_width: 41, dfs_bound: 1 << 33, q: 0.0015 };
+    // All seven numbers are different, S is no lawful R, and the try isn't the first.
+    let (list, proof) = found(&s, |found| {
+        let (retry, search) = (found.retry_counter, found.search_counter);
+        ![1, s.proof_size, s.max_retries].contains(&retry) && search > s.max_retries && search != s.set_size
+    })?;
+    let Claim { retry_counter, search_counter, list, .. } = Claim::of(&s, &list, &proof);
+    let Written { data, ends, marks, indexes } = list.written();
+    let args = Args {
+        numbers: vec![s.set_size, s.proof_size, s.max_retries, s.search_width, s.dfs_bound, retry_counter, search_counter],
+        double: s.q,
+        bytes: vec![data, ends, marks, indexes],
+        ..Args::default()
+    };
+    let ours = |args: &mut Args| ffi::verify(&settings(args), args.numbers[5], args.numbers[6], written(args).lent());
+    let due = |args: &mut Args| {
+        let judge = |list: List| original::verify(&settings(args), &ProofOf::from(args.numbers[5], args.numbers[6], list.elements()));
+        Ok(verifier_refusals::due(&settings(args), &written(args)).map_or_else(|number| number, judge))
+    };
+    Ok(Export { name: "alba_verify", args, answer: 0, ours, due })
+}
+
+/// A list of which the Rust finds a proof that is wanted, and the proof.
+fn found(s: &Settings, is_wanted: impl Fn(&Outcome) -> bool) -> Result<(List, Outcome), String> {
+    let mut rng = Rng::new(SEED, s.set_size);
+    loop {
+        let list = searches::list_of(&mut rng, 2 * s.set_size as usize + 1, 1, 9);
+        let outcome = searches::due(s, &list)?;
+        if outcome.number == 0 && is_wanted(&outcome) {
+            return Ok((list, outcome));
+        }
+    }
+}
+
+fn settings(args: &Args) -> Settings {
+    let [set_size, proof_size, max_retries, search_width, dfs_bound, ..] = args.numbers[..] else { unreachable!("five numbers or more") };
+    Settings { set_size, proof_size, max_retries, search_width, dfs_bound, q: args.double }
+}
+
+/// The list of a call that takes ends and indexes as numbers.
+fn list_of(args: &Args) -> List {
+    let Args { bytes, words, longs, .. } = args;
+    List { data: bytes[0].clone(), ends: words[0].clone(), marks: bytes[1].clone(), indexes: longs[0].clone() }
+}
+
+/// The list of a call that takes all as bytes.
+fn written(args: &Args) -> Written {
+    let [data, ends, marks, indexes] = args.bytes.clone().try_into().expect("four slices of bytes");
+    Written { data, ends, marks, indexes }
+}
