@@ -149,3 +149,51 @@ fn number(text: &str) -> Option<u64> {
 fn from_clock() -> u64 {
     SystemTime::now().duration_since(UNIX_EPOCH).map_or(0, |since| since.as_nanos() as u64)
 }
+
+#[cfg(test)]
+mod tests {
+    use super::*;
+
+    fn parsed(line: &str) -> Result<Command, String> {
+        parse(line.split_whitespace().map(str::to_string))
+    }
+
+    fn why_not(line: &str) -> String {
+        parsed(line).err().unwrap_or_else(|| panic!("`{line}` is taken"))
+    }
+
+    #[test]
+    fn numbers_are_decimal_or_hexadecimal_and_have_their_usual_value() {
+        let Ok(Command::Compare(Compare { cases, seed })) = parsed("compare --seed 0x1F --cases 12") else { panic!() };
+        assert_eq!((cases, seed), (12, 31));
+        let Ok(Command::Compare(Compare { cases, .. })) = parsed("compare") else { panic!() };
+        assert_eq!(cases, 2_000_000);
+        // The usual seed is the one that the stored answers were written with.
+        assert!(matches!(parsed("answers"), Ok(Command::Answers(0x43_c389_a516))));
+        assert!(matches!(parsed("answers --seed 18446744073709551615"), Ok(Command::Answers(u64::MAX))));
+    }
+
+    #[test]
+    fn load_wants_a_time_or_a_turn() {
+        let load = |line| match parsed(line) {
+            Ok(Command::Load(load)) => (load.time.as_secs(), load.seed, load.threads, load.turn),
+            _ => panic!("{line}"),
+        };
+        assert_eq!(load("load --minutes 2 --seconds 5 --seed 3"), (125, 3, 2, None));
+        assert_eq!(load("load --turn 0 --seed 3 --threads 0"), (0, 3, 1, Some(0)));
+        assert_eq!(load("load --seconds 1 --seed 3 --threads 1000"), (1, 3, 64, None));
+        assert_eq!(why_not("load --seed 3"), "load wants --minutes or --seconds");
+    }
+
+    #[test]
+    fn what_is_not_meant_is_refused() {
+        assert_eq!(why_not(""), "say what to do");
+        assert_eq!(why_not("prove"), "there is no `prove`");
+        assert_eq!(why_not("compare --minutes 1"), "compare has no `--minutes`");
+        assert_eq!(why_not("compare --cases"), "--cases wants a number");
+        assert_eq!(why_not("compare --cases many"), "`many` is no number of 64 bits");
+        assert_eq!(why_not("answers --seed 18446744073709551616"), "`18446744073709551616` is no number of 64 bits");
+        assert_eq!(why_not("bench --steps twice"), "bench has no `twice` here");
+        assert_eq!(why_not("stack deep"), "stack has no `deep`");
+    }
+}

@@ -109,3 +109,69 @@ impl Written {
         Listed { data: Some(&self.data), ends: Some(&self.ends), marks: Some(&self.marks), indexes: Some(&self.indexes) }
     }
 }
+
+#[cfg(test)]
+mod tests {
+    use super::*;
+
+    /// "a" without an index, where 9 stands instead, "bc" with 7, and no data with 0.
+    fn sample() -> List {
+        let mut list = List::default();
+        list.push(b"a", None, 9);
+        list.push(b"bc", Some(7), 1);
+        list.push(b"", Some(0), 1);
+        list
+    }
+
+    #[test]
+    fn data_is_joined_and_an_end_is_where_an_element_stops() {
+        let list = sample();
+        assert_eq!(list.data, b"abc");
+        assert_eq!(list.ends, [1, 3, 3]);
+        assert_eq!(list.marks, [0, 1, 1]);
+        assert_eq!(list.indexes, [9, 7, 0]);
+    }
+
+    #[test]
+    fn the_rust_gets_the_data_the_index_and_the_place() {
+        let list = sample();
+        let told: Vec<_> = list.elements().iter().map(|e| (e.as_ref().to_vec(), e.index, e.data.place)).collect();
+        // An index of 0 is one, and what stands beside the mark 0 is none.
+        assert_eq!(told, [(b"a".to_vec(), None, 0), (b"bc".to_vec(), Some(7), 1), (b"".to_vec(), Some(0), 2)]);
+    }
+
+    #[test]
+    fn data_behind_the_last_end_goes_before_an_element_is_added() {
+        let mut list = sample();
+        list.data.extend(b"stray");
+        list.push(b"d", None, 0);
+        assert_eq!((list.data.as_slice(), list.data_of(3)), (b"abcd".as_slice(), b"d".as_slice()));
+    }
+
+    #[test]
+    fn places_are_taken_in_their_order_and_again() {
+        let taken = sample().at(&[2, 1, 1, 0]);
+        let mut list = List::default();
+        list.push(b"", Some(0), 0);
+        list.push(b"bc", Some(7), 0);
+        list.repeat(1, 0);
+        list.push(b"a", None, 9);
+        assert_eq!(taken, list);
+    }
+
+    #[test]
+    fn the_verifier_gets_ends_in_four_bytes_and_indexes_in_eight() {
+        let mut list = sample();
+        list.indexes[2] = 0x0102_0304_0506_0708;
+        let written = list.written();
+        assert_eq!(written.ends, [0, 0, 0, 1, 0, 0, 0, 3, 0, 0, 0, 3]);
+        assert_eq!(written.indexes[16..], [1, 2, 3, 4, 5, 6, 7, 8]);
+        assert_eq!(written.read().as_ref(), Some(&list));
+        // An unlawful list is read as it stands; bytes that make no whole number are not read.
+        list.ends.swap(0, 2);
+        list.marks.push(255);
+        assert_eq!(list.written().read(), Some(list));
+        assert_eq!(Written { ends: written.ends[1..].to_vec(), ..written.clone() }.read(), None);
+        assert_eq!(Written { indexes: written.indexes[4..].to_vec(), ..written }.read(), None);
+    }
+}

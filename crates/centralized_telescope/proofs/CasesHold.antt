@@ -10,17 +10,17 @@ use lib.Ieee.{Float, isNan, lt, ofInt, round, add, mul, div}
 use lib.ListN.{length, take, length-take}
 use Rattle.sampling.specs.BigEndian.{bigEndian}
 use Rattle.sampling.specs.Sample.{isPower, modNotPower, uniform, outside, threshold, bernoulli}
-use Rattle.sampling.specs.SampleLaws.{drawn-of-one}
+use Rattle.sampling.specs.laws.SampleLaws.{drawn-of-one}
 use Rattle.centralized_telescope.specs.declared.params.Params.{Params}
 use Rattle.centralized_telescope.specs.Params.{notOneTo, whole, L, floor, ceil, beforeCeil, searchWidth, beforeFloor, dfsBound, proofSizeOut, completenessOut, smallCase, smallSettings}
-use Rattle.centralized_telescope.specs.SmallCaseLaws.{settings-given}
+use Rattle.centralized_telescope.specs.laws.SmallCaseLaws.{settings-given}
 use Rattle.centralized_telescope.specs.Elements.{Element, elements}
-use Rattle.centralized_telescope.specs.ElementsLaws.{length-elements}
+use Rattle.centralized_telescope.specs.laws.ElementsLaws.{length-elements}
 use Rattle.centralized_telescope.specs.Lists.{Each}
 use Rattle.centralized_telescope.specs.Chains.{Chain, tryOf}
 use Rattle.centralized_telescope.specs.Prover.{served, answered}
 use Rattle.centralized_telescope.specs.Search.{tryFinds, searched}
-use Rattle.centralized_telescope.specs.OneBinLaws.{treeSize, count-whole, none-found, tries-find-none, tries-count, never-yes}
+use Rattle.centralized_telescope.specs.laws.OneBinLaws.{treeSize, count-whole, none-found, tries-find-none, tries-count, never-yes}
 use Rattle.centralized_telescope.specs.AllCases.{Holds, settingsOf, Ends, cases, AllCases}
 use Rattle.centralized_telescope.proofs.ProveAnswers.{served-so}
 

@@ -11,8 +11,9 @@ use Rattle.centralized_telescope.specs.declared.params.Params.{Params}
 use Rattle.centralized_telescope.specs.declared.round.Id.{Id}
 use Rattle.centralized_telescope.specs.declared.round.Id.the-variants as id
 use Rattle.centralized_telescope.specs.Elements.{Element, elementAt}
-use Rattle.centralized_telescope.specs.Rounds.{startHash, nextHash, roundId, binOf, idOption}
+use Rattle.centralized_telescope.specs.Rounds.{startHash, nextHash, roundId, binOf}
 use Rattle.centralized_telescope.specs.Verifier.{ifSome, follow, lastHash}
+use Rattle.centralized_telescope.specs.inner.RoundAnswers.{idOption}
 
 -- what an answer of the code says of the draw d
 pub nowhere : (a : Id) (d : Option ℕ) → idOption a ≡ d → a ≡ id.Nowhere → d ≡ none

@@ -10,17 +10,17 @@ use lib.Seq.{take-at}
 use Rattle.sampling.specs.Sample.{outside, threshold, thresholdOrRefusal}
 use Rattle.centralized_telescope.specs.declared.params.Params.{Params}
 use Rattle.centralized_telescope.specs.Params.{notOneTo, limitBroken, checked}
-use Rattle.centralized_telescope.specs.ParamsLaws.{lawful}
+use Rattle.centralized_telescope.specs.laws.ParamsLaws.{lawful}
 use Rattle.centralized_telescope.specs.Elements.{Element, elements, elementAt, endWrong, malformed, dataLong, tooLarge, listCheck}
-use Rattle.centralized_telescope.specs.ElementsLaws.{at-kept, length-elements, bytes-short}
+use Rattle.centralized_telescope.specs.laws.ElementsLaws.{at-kept, length-elements, bytes-short}
 use Rattle.centralized_telescope.specs.Lists.{Each, someOf}
-use Rattle.centralized_telescope.specs.ListsLaws.{each-nil, each-cons, each-head, each-rest}
+use Rattle.centralized_telescope.specs.laws.ListsLaws.{each-nil, each-cons, each-head, each-rest}
 use Rattle.centralized_telescope.specs.Chains.{Try, tryOf, Chain, ElementsPass, elementsOf, Passes}
 use Rattle.centralized_telescope.specs.Search.{searched}
 use Rattle.centralized_telescope.specs.Prover.{Proved, served, proved, tableAfter}
 use Rattle.centralized_telescope.specs.Verifier.{verdict}
 use Rattle.centralized_telescope.specs.WrittenOut.{joined, endsFrom, marksOf, indexesOf}
-use Rattle.centralized_telescope.specs.WrittenOutLaws.{Short, accepted-again, elements-again}
+use Rattle.centralized_telescope.specs.laws.WrittenOutLaws.{Short, accepted-again, elements-again}
 use Rattle.centralized_telescope.specs.Demand3.{Served, OfProver, OfVerifier, OnTheProof, Listed, proofElements, demand3, servedExample}
 use Rattle.centralized_telescope.proofs.ProveAnswers.{served-so}
 use Rattle.centralized_telescope.proofs.VerifierDemand.{verdict-so}

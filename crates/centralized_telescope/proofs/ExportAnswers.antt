@@ -7,13 +7,17 @@ use native.Mathlib.Omega.{arith}
 use borrow.Author.Tests.{eq-eqb, ne-eqb}
 use lib.ListN.{length, take, length-append}
 use lib.Seq.{length-take-le, take-at}
+use Rattle.centralized_telescope.specs.declared.errors.Refusal.{Refusal}
+use Rattle.centralized_telescope.specs.declared.errors.Refusal.the-variants as refusal
 use Rattle.centralized_telescope.specs.declared.params.Params.{Params}
+use Rattle.centralized_telescope.specs.Refusals.{refusalNumber}
+use Rattle.centralized_telescope.specs.laws.RefusalsLaws.{refusal-number}
 use Rattle.centralized_telescope.specs.Elements.{elements, listCheck}
-use Rattle.centralized_telescope.specs.ElementsLaws.{length-elements, same-marks, same-indexes}
+use Rattle.centralized_telescope.specs.laws.ElementsLaws.{length-elements, same-marks, same-indexes}
 use Rattle.centralized_telescope.specs.Lists.{firstNumber}
-use Rattle.centralized_telescope.specs.ListsLaws.{number-met, second-met}
+use Rattle.centralized_telescope.specs.laws.ListsLaws.{number-met, second-met}
 use Rattle.centralized_telescope.specs.Params.{checked}
-use Rattle.centralized_telescope.specs.ParamsLaws.{lawful}
+use Rattle.centralized_telescope.specs.laws.ParamsLaws.{number-alone, lawful}
 use Rattle.centralized_telescope.specs.Verifier.{judged, verdict}
 use Rattle.centralized_telescope.specs.Exports.{numbersOf, isWholeCount, exportedVerdict}
 use Rattle.centralized_telescope.proofs.NumbersRead.{length-numbersIn}
@@ -36,17 +40,17 @@ module _ (d e m k : List ℕ) (A : listCheck d (numbersOf 4 e) m (numbersOf 8 k)
     indexes-room = length-take-le (length m) z h ∙ sym indexes-many ∙ length-numbersIn (length k / 8) 8 k
 
 module _ (p : Params) (R S : ℕ) (d e m k : List ℕ) where
-  pub bytes-settings-refused : (r : ℕ) → r ≡ checked p .0 → (r ≡ 0 → ⊥) → r ≡ exportedVerdict p R S d e m k
+  pub bytes-settings-refused : (r : Refusal) → checked p ≡ (refusalNumber r, 0) → refusalNumber r ≡ exportedVerdict p R S d e m k
   unfolding exportedVerdict
-  bytes-settings-refused r c z = go (isWholeCount 4 e && isWholeCount 8 k)
+  bytes-settings-refused r c = go (isWholeCount 4 e && isWholeCount 8 k)
     where
-      go : (t : Bool) → r ≡ cond t (verdict p R S d (numbersOf 4 e) m (numbersOf 8 k)) (firstNumber (checked p .0 ∷ 4 ∷ []))
-      go true = settings-refused p R S d (numbersOf 4 e) m (numbersOf 8 k) r c z
-      go false = sym (number-met (checked p .0) (4 ∷ []) r (sym c) z)
+      go : (t : Bool) → refusalNumber r ≡ cond t (verdict p R S d (numbersOf 4 e) m (numbersOf 8 k)) (firstNumber (checked p .0 ∷ 4 ∷ []))
+      go true = settings-refused p R S d (numbersOf 4 e) m (numbersOf 8 k) r c
+      go false = sym (number-met (checked p .0) (4 ∷ []) (refusalNumber r) (number-alone c) (refusal-number r))
 
   module _ (P : checked p .0 ≡ 0) where
     malformed : 4 ≡ firstNumber (checked p .0 ∷ 4 ∷ [])
-    malformed = sym (second-met (checked p .0) 4 [] 4 P refl (λ z. omega arith))
+    malformed = sym (second-met (checked p .0) 4 [] 4 P refl (refusal-number refusal.Malformed))
 
     pub ends-not-whole : (length e % 4 ≡ 0 → ⊥) → 4 ≡ exportedVerdict p R S d e m k
     unfolding exportedVerdict

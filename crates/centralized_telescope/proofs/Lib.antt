@@ -1,32 +1,48 @@
--- The laws that the proofs of `centralized_telescope` share.
+-- The laws that the proofs of `centralized_telescope` share, by the source file that they serve; those that only others here cite stand
+-- before them.
+-- params.rt
 mod Whole
 mod Figures
+-- types.rt, exports.rt
 mod ListFaults
 mod ListAnswers
+-- theorems.rt
 mod TryFinds
 mod Tries
 mod VerifierDemand
 mod ProverDemand
 mod DemandHolds
 mod CasesHold
+-- round.rt
 mod RoundHashes
+-- bins.rt; BinCounting misc.rt too
 mod BinCounting
 mod BinPlacing
 mod BinBuilding
+-- proof.rt, its search
 mod TableFacts
 mod Measure
 mod Walked
 mod Turn
 mod OneTry
+-- bins.rt
 mod BinListing
+-- proof.rt, its tries
 mod ManyTries
+-- telescope.rt, theorems.rt
 mod ProveAnswers
+-- proof_list.rt
 mod ProofWriting
 mod ProofAnswers
+-- misc.rt
 mod Merging
 mod Halves
 mod DistinctAnswers
+-- proof.rt, its verifier
 mod ChainFollowed
+-- telescope.rt, proof.rt, exports.rt
 mod VerdictAnswers
+-- numbers.rt, exports.rt
 mod NumbersRead
+-- exports.rt
 mod ExportAnswers

@@ -5,7 +5,8 @@ use mathlib.Core.List.{List}
 use Prim.Native.Nat.{ℕ, _≤_, _<_}
 use borrow.Author.Tests.{eq-eqb, ne-eqb, lt-ltb, le-ltb}
 use lib.ListN.{length}
-use Rattle.centralized_telescope.specs.Elements.{markOver, endWrong, malformed, dataLong, tooLarge, foundNumber, listCheck}
+use Rattle.centralized_telescope.specs.Elements.{markOver, endWrong, malformed, dataLong, tooLarge, listCheck}
+use Rattle.centralized_telescope.specs.inner.ListReading.{foundNumber}
 
 module _ (n m x : ℕ) (over wrong long : Bool) where
   pub marks-differ : (n ≡ m → ⊥) → 4 ≡ foundNumber n m x over wrong long

@@ -17,14 +17,14 @@ use Rattle.centralized_telescope.specs.Lists.{over}
 use Rattle.centralized_telescope.specs.Params.{checked}
 use Rattle.centralized_telescope.specs.Elements.{Element, listCheck}
 use Rattle.centralized_telescope.specs.Bins.{tableOf, binTable}
-use Rattle.centralized_telescope.specs.BinsLaws.{length-table}
+use Rattle.centralized_telescope.specs.laws.BinsLaws.{length-table}
 use Rattle.centralized_telescope.specs.Chains.{Try, tryOf, Chain}
 use Rattle.centralized_telescope.specs.Search.{binsOf, tryCount, tryFinds, Searched, unlessFound, triesFrom, searched}
-use Rattle.centralized_telescope.specs.TryLaws.{length-binList}
-use Rattle.centralized_telescope.specs.Walk.{Ended, found, missing, counted, find}
-use Rattle.centralized_telescope.specs.WalkLaws.{walk-bound, try-counts, try-finds}
+use Rattle.centralized_telescope.specs.laws.TryLaws.{length-binList}
+use Rattle.centralized_telescope.specs.inner.Walk.{Ended, found, missing, counted, find}
+use Rattle.centralized_telescope.specs.laws.WalkLaws.{walk-bound, try-counts, try-finds}
 use Rattle.centralized_telescope.specs.Prover.{tableAfter, answered, served, provedBy}
-use Rattle.centralized_telescope.specs.Visit.{tryOn, tried, attemptOf, written, Ready}
+use Rattle.centralized_telescope.specs.inner.Visit.{tryOn, tried, attemptOf, written, Ready}
 
 -- ---- from an answer back to the try's end
 

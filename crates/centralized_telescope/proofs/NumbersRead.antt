@@ -7,7 +7,7 @@ use native.Mathlib.Numerals.{add-one}
 use native.Mathlib.Omega.{arith}
 use lib.ListN.{length, take, drop, getD, set}
 use lib.Seq.{getD-drop, drop-drop, take-all, take-suc}
-use Rattle.sampling.specs.CommonLaws.{filled-more}
+use Rattle.sampling.specs.laws.CommonLaws.{filled-more}
 use Rattle.sampling.specs.BigEndian.{bigEndian}
 use Rattle.centralized_telescope.specs.Exports.{numbersIn}
 

@@ -11,14 +11,15 @@ use Rattle.centralized_telescope.specs.declared.proof.Attempt.the-varian
 use Rattle.centralized_telescope.specs.declared.round.Id.{Id}
 use Rattle.centralized_telescope.specs.declared.round.Id.the-variants as id
 use Rattle.centralized_telescope.specs.Lists.{over}
-use Rattle.centralized_telescope.specs.Rounds.{startHash, roundId, idOption}
+use Rattle.centralized_telescope.specs.Rounds.{startHash, roundId}
 use Rattle.centralized_telescope.specs.Chains.{Try, Chain}
 use Rattle.centralized_telescope.specs.Search.{idOf, grown, chains, chainsAt, chainsFrom, passing}
-use Rattle.centralized_telescope.specs.SearchLaws.{same-search}
-use Rattle.centralized_telescope.specs.TryLaws.{id-below}
-use Rattle.centralized_telescope.specs.Walk.{Ended, found, missing, walk}
-use Rattle.centralized_telescope.specs.WalkLaws.{walk-full, andThen, walk-append, walk-among}
-use Rattle.centralized_telescope.specs.Visit.{visited, tried, attemptOf, written, writtenFrom}
+use Rattle.centralized_telescope.specs.inner.RoundAnswers.{idOption}
+use Rattle.centralized_telescope.specs.laws.SearchLaws.{same-search}
+use Rattle.centralized_telescope.specs.laws.TryLaws.{id-below}
+use Rattle.centralized_telescope.specs.inner.Walk.{Ended, found, missing, walk}
+use Rattle.centralized_telescope.specs.laws.WalkLaws.{walk-full, andThen, walk-append, walk-among}
+use Rattle.centralized_telescope.specs.inner.Visit.{visited, tried, attemptOf, written, writtenFrom}
 use Rattle.centralized_telescope.proofs.Walked.{visited-bound, visited-own, missing-of, found-of, written-short, written-full, written-none, Answers}
 
 module _ (T : Try) where

@@ -9,13 +9,14 @@ use borrow.Author.Tests.{eq-eqb, ne-eqb, ltb-false}
 use lib.Dec.{ltb}
 use lib.ListN.{length, getD, take, drop, set, length-append, length-drop, length-map, drop-of-length-le}
 use lib.Seq.{drop-cons, length-take-le, take-at, drop-append-add, drop-drop, take-all}
-use Rattle.centralized_telescope.specs.Elements.{Element, elementAt, elements, dataAt, indexAt, indexOf, markOf, numberOf, listCheck}
-use Rattle.centralized_telescope.specs.ElementsLaws.{data-there, data-short, index-there}
-use Rattle.centralized_telescope.specs.WrittenOut.{placeOut, dataOf, joined, endsFrom, marksOf, indexesOf, chosen, WrittenOut, wrote, written, buffersShort}
-use Rattle.centralized_telescope.specs.TestLaws.{neither}
+use Rattle.centralized_telescope.specs.Elements.{Element, elementAt, elements, indexOf, markOf, numberOf, listCheck}
+use Rattle.centralized_telescope.specs.laws.ElementsLaws.{data-there, data-short, index-there}
+use Rattle.centralized_telescope.specs.WrittenOut.{placeOut, joined, endsFrom, marksOf, indexesOf, chosen, WrittenOut, wrote, written, buffersShort}
+use Rattle.centralized_telescope.specs.laws.TestLaws.{neither}
 use Rattle.centralized_telescope.specs.Lists.{over}
-use Rattle.centralized_telescope.specs.ListsLaws.{map-more, over-set}
-use Rattle.centralized_telescope.specs.WrittenOutLaws.{length-ends, place-within}
+use Rattle.centralized_telescope.specs.inner.ListReading.{dataAt, indexAt, dataOf}
+use Rattle.centralized_telescope.specs.laws.ListsLaws.{map-more, over-set}
+use Rattle.centralized_telescope.specs.laws.WrittenOutLaws.{length-ends, place-within}
 
 -- ---- an index as it is lent
 

@@ -3,14 +3,18 @@ use mathlib.Core.Path.{_≡_, _∙_}
 use mathlib.Core.Bool.{true, false, cond}
 use mathlib.Core.List.{List}
 use Prim.Native.Nat.{ℕ, _+_, _*_, _≤_, _<_}
-use native.Mathlib.Omega.{arith}
 use borrow.Author.Tests.{eq-eqb, ne-eqb, lt-ltb, le-ltb}
 use lib.Dec.{ltb}
 use lib.ListN.{length}
+use Rattle.centralized_telescope.specs.declared.errors.Refusal.{Refusal}
+use Rattle.centralized_telescope.specs.declared.errors.Refusal.the-variants as refusal
 use Rattle.centralized_telescope.specs.declared.params.Params.{Params}
+use Rattle.centralized_telescope.specs.Refusals.{refusalNumber}
+use Rattle.centralized_telescope.specs.laws.RefusalsLaws.{refusal-number}
 use Rattle.centralized_telescope.specs.Params.{checked}
+use Rattle.centralized_telescope.specs.laws.ParamsLaws.{number-alone}
 use Rattle.centralized_telescope.specs.Elements.{elements, listCheck}
-use Rattle.centralized_telescope.specs.ListsLaws.{number-passed, number-met, second-met, two-passed, number-last}
+use Rattle.centralized_telescope.specs.laws.ListsLaws.{number-passed, number-met, second-met, two-passed, number-last}
 use Rattle.centralized_telescope.specs.Prover.{Proved, refused, served, workspaceShort, proverRefusal, proved}
 use Rattle.centralized_telescope.specs.Demand3.{Served}
 
@@ -18,30 +22,29 @@ module _ (p : Params) (bytes ends marks indexes places table : List ℕ) where
   abbrev answer : Proved
   answer = proved p bytes ends marks indexes places table
 
-  refusal-is : (k : ℕ) → proverRefusal p bytes ends marks indexes places table ≡ k → (k ≡ 0 → ⊥) → answer ≡ refused k places table
+  refusal-is : (k : Refusal) → proverRefusal p bytes ends marks indexes places table ≡ refusalNumber k → answer ≡ refused (refusalNumber k) places table
   unfolding proved
-  refusal-is k e n = rw (e, ne-eqb k 0 n)
+  refusal-is k e = rw (e, ne-eqb (refusalNumber k) 0 (refusal-number k))
 
   -- 1, 2, 3
-  pub settings-refused : (k : ℕ) → checked p .0 ≡ k → (k ≡ 0 → ⊥) → answer ≡ refused k places table
+  pub settings-refused : (k : Refusal) → checked p ≡ (refusalNumber k, 0) → answer ≡ refused (refusalNumber k) places table
   unfolding proverRefusal
-  settings-refused k e n = refusal-is k (number-met (checked p .0) _ k e n) n
+  settings-refused k e = refusal-is k (number-met (checked p .0) _ (refusalNumber k) (number-alone e) (refusal-number k))
 
   module _ (s : checked p .0 ≡ 0) where
     -- 4, 5
-    pub list-refused : (k : ℕ) → listCheck bytes ends marks indexes ≡ k → (k ≡ 0 → ⊥) → answer ≡ refused k places table
+    pub list-refused : (k : Refusal) → listCheck bytes ends marks indexes ≡ refusalNumber k → answer ≡ refused (refusalNumber k) places table
     unfolding proverRefusal
-    list-refused k e n = refusal-is k (second-met (checked p .0) (listCheck bytes ends marks indexes) _ k s e n) n
+    list-refused k e = refusal-is k (second-met (checked p .0) (listCheck bytes ends marks indexes) _ (refusalNumber k) s e (refusal-number k))
 
     module _ (l : listCheck bytes ends marks indexes ≡ 0) where
       -- 6
       short : workspaceShort p places table ≡ true → answer ≡ refused 6 places table
       unfolding proverRefusal
       short t =
-          refusal-is 6
+          refusal-is refusal.WorkspaceShort
           (two-passed (checked p .0) (listCheck bytes ends marks indexes) _ s l
-          ∙ number-met (cond (workspaceShort p places table) 6 0) _ 6 (rw t) (λ z. omega arith))
-          (λ z. omega arith)
+          ∙ number-met (cond (workspaceShort p places table) 6 0) _ 6 (rw t) (refusal-number refusal.WorkspaceShort))
 
       pub places-short : length places < p .«proof_size» → answer ≡ refused 6 places table
       places-short h = short (rw (lt-ltb (length places) (p .«proof_size») h))
@@ -63,7 +66,7 @@ module _ (p : Params) (bytes ends marks indexes places table : List ℕ) where
 
           -- 10
           pub few-refused : length ends < p .«set_size» → answer ≡ refused 10 places table
-          few-refused f = refusal-is 10 (after-six ∙ rw (lt-ltb (length ends) (p .«set_size») f)) (λ z. omega arith)
+          few-refused f = refusal-is refusal.NotEnoughElements (after-six ∙ rw (lt-ltb (length ends) (p .«set_size») f))
 
           pub all-served : p .«set_size» ≤ length ends → answer ≡ served p (elements bytes ends marks indexes) places table
           unfolding proved

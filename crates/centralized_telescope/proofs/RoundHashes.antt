@@ -9,14 +9,15 @@ use borrow.Author.Tests.{eq-eqb, ne-eqb}
 use lib.Dec.{ltb}
 use lib.ListN.{length, take, drop, length-append, length-take}
 use lib.Seq.{take-all}
-use Rattle.sampling.specs.CommonLaws.{copied}
+use Rattle.sampling.specs.laws.CommonLaws.{copied}
 use Rattle.sampling.specs.BigEndian.{bigEndian, bytesOf}
-use Rattle.sampling.specs.BigEndianLaws.{length-bytesOf}
+use Rattle.sampling.specs.laws.BigEndianLaws.{length-bytesOf}
 use Rattle.sampling.specs.Fips180.{sha256}
 use Rattle.sampling.specs.Hash.{hashed}
-use Rattle.sampling.specs.HashLaws.{hashed-within}
+use Rattle.sampling.specs.laws.HashLaws.{hashed-within}
 use Rattle.centralized_telescope.specs.Elements.{Element, indexBytes, tail, indexOf}
-use Rattle.centralized_telescope.specs.Rounds.{roundLabel, binLabel, proofLabel, startHash, drawnBelow, binOf, belowX}
+use Rattle.centralized_telescope.specs.Rounds.{roundLabel, binLabel, proofLabel, startHash, drawnBelow, binOf}
+use Rattle.centralized_telescope.specs.inner.RoundAnswers.{belowX}
 
 -- ---- an element's index: 8 bytes with the mark 1, else none
 

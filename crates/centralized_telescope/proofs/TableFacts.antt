@@ -5,19 +5,20 @@ use Prim.Native.Nat.{ℕ, _+_, _-_, _*_, _^_, _≤_, _<_}
 use native.Mathlib.Omega.{arith}
 use lib.ListN.{length, getD, length-append, length-take}
 use lib.Seq.{slice}
-use Rattle.sampling.specs.SampleLaws.{threshold-at}
+use Rattle.sampling.specs.laws.SampleLaws.{threshold-at}
 use Rattle.centralized_telescope.specs.declared.params.Params.{Params}
-use Rattle.centralized_telescope.specs.ParamsLaws.{Lawful, lawful}
+use Rattle.centralized_telescope.specs.laws.ParamsLaws.{Lawful, lawful}
 use Rattle.centralized_telescope.specs.Elements.{elements, elementAt}
-use Rattle.centralized_telescope.specs.ElementsLaws.{length-elements, at-kept}
-use Rattle.centralized_telescope.specs.Rounds.{saysYes, belowX}
-use Rattle.centralized_telescope.specs.RoundsLaws.{yes-below}
+use Rattle.centralized_telescope.specs.laws.ElementsLaws.{length-elements, at-kept}
+use Rattle.centralized_telescope.specs.Rounds.{saysYes}
+use Rattle.centralized_telescope.specs.laws.RoundsLaws.{yes-below}
 use Rattle.centralized_telescope.specs.Bins.{startOf, tableOf}
-use Rattle.centralized_telescope.specs.BinsLaws.{length-table, starts-ascend, start-bound, table-start, table-part, table-entry}
+use Rattle.centralized_telescope.specs.laws.BinsLaws.{length-table, starts-ascend, start-bound, table-start, table-part, table-entry}
 use Rattle.centralized_telescope.specs.Chains.{Try}
 use Rattle.centralized_telescope.specs.Search.{binsOf, placesIn}
-use Rattle.centralized_telescope.specs.TryLaws.{length-binList}
-use Rattle.centralized_telescope.specs.Visit.{tryOn, Ready, Span}
+use Rattle.centralized_telescope.specs.inner.RoundAnswers.{belowX}
+use Rattle.centralized_telescope.specs.laws.TryLaws.{length-binList}
+use Rattle.centralized_telescope.specs.inner.Visit.{tryOn, Ready, Span}
 
 module _ {p : Params} {X : ℕ} {bytes ends marks indexes : List ℕ} {R : ℕ} {table : List ℕ} {room : ℕ}
     (r : Ready p X bytes ends marks indexes R table room) where

@@ -11,12 +11,12 @@ use borrow.Author.Tests.{eq-eqb, eqb-true, le-leb, leb-true}
 use lib.Dec.{eqb, leb}
 use lib.ListN.{length}
 use Rattle.centralized_telescope.specs.Lists.{Pairwise, firstOf}
-use Rattle.centralized_telescope.specs.ListsLaws.{first-none, first-some, prefixTo, length-prefix, prefix-among, prefix-pairwise, prefix-before, before-prefix, no-longer}
+use Rattle.centralized_telescope.specs.laws.ListsLaws.{first-none, first-some, prefixTo, length-prefix, prefix-among, prefix-pairwise, prefix-before, before-prefix, no-longer}
 use Rattle.centralized_telescope.specs.Rounds.{saysYes}
 use Rattle.centralized_telescope.specs.Chains.{Try, Chain, Passes, Before}
-use Rattle.centralized_telescope.specs.OrderLaws.{before-transitive, before-asymmetric}
+use Rattle.centralized_telescope.specs.laws.OrderLaws.{before-transitive, before-asymmetric}
 use Rattle.centralized_telescope.specs.Search.{existing, passing, K, tryFinds}
-use Rattle.centralized_telescope.specs.SearchLaws.{listed-exists, exists-listed, in-order}
+use Rattle.centralized_telescope.specs.laws.SearchLaws.{listed-exists, exists-listed, in-order}
 use Rattle.centralized_telescope.specs.Demand3.{Number, UpTo, FirstPassing, WithinBound, HasProof, UpToPassing}
 
 up-to-transitive : (a b c : Chain) → UpTo a b → UpTo b c → UpTo a c

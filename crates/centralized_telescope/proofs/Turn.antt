@@ -7,18 +7,19 @@ use native.Mathlib.Numerals.{add-one}
 use native.Mathlib.Omega.{arith}
 use lib.ListN.{length, take, drop, set, getD, length-set}
 use lib.Seq.{slice, slice-cons, slice-empty, length-take-le}
-use Rattle.sampling.specs.CommonLaws.{filled-more}
+use Rattle.sampling.specs.laws.CommonLaws.{filled-more}
 use Rattle.centralized_telescope.specs.declared.params.Params.{Params}
 use Rattle.centralized_telescope.specs.declared.proof.Outcome.{Outcome}
 use Rattle.centralized_telescope.specs.declared.proof.Outcome.the-variants as outcome
 use Rattle.centralized_telescope.specs.declared.round.Id.{Id}
 use Rattle.centralized_telescope.specs.declared.round.Id.the-variants as id
 use Rattle.centralized_telescope.specs.Elements.{elements, elementAt}
-use Rattle.centralized_telescope.specs.Rounds.{nextHash, roundId, idOption}
+use Rattle.centralized_telescope.specs.Rounds.{nextHash, roundId}
 use Rattle.centralized_telescope.specs.Chains.{Try, Chain}
 use Rattle.centralized_telescope.specs.Search.{nextAt, idOf}
-use Rattle.centralized_telescope.specs.Walk.{Ended, found, missing}
-use Rattle.centralized_telescope.specs.Visit.{tryOn, visited, walked, outcomeOf, written, writtenFrom, Ready, Span}
+use Rattle.centralized_telescope.specs.inner.RoundAnswers.{idOption}
+use Rattle.centralized_telescope.specs.inner.Walk.{Ended, found, missing}
+use Rattle.centralized_telescope.specs.inner.Visit.{tryOn, visited, walked, outcomeOf, written, writtenFrom, Ready, Span}
 use Rattle.centralized_telescope.proofs.TableFacts.{table-all, entry-kept, same-element}
 use Rattle.centralized_telescope.proofs.Walked.{walked-end, walked-full, walked-nothing, walked-missing, walked-found, visited-bound, visited-own, missing-of, found-of, written-short, written-full, written-none, Answers}
 

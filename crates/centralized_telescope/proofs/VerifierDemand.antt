@@ -10,15 +10,15 @@ use borrow.Author.Tests.{eqb-true, eqb-false, leb-true, leb-false}
 use lib.Dec.{eqb, leb}
 use lib.ListN.{length}
 use Rattle.centralized_telescope.specs.declared.params.Params.{Params}
-use Rattle.centralized_telescope.specs.TestLaws.{neither}
+use Rattle.centralized_telescope.specs.laws.TestLaws.{neither}
 use Rattle.centralized_telescope.specs.Params.{checked}
 use Rattle.centralized_telescope.specs.Elements.{Element, elements, listCheck}
-use Rattle.centralized_telescope.specs.ElementsLaws.{check-range}
+use Rattle.centralized_telescope.specs.laws.ElementsLaws.{check-range}
 use Rattle.centralized_telescope.specs.Chains.{ElementsPass}
 use Rattle.centralized_telescope.specs.Verifier.{lastHash, yesOn, countersOut, judged, verdict}
-use Rattle.centralized_telescope.specs.VerifierLaws.{yes-exists, exists-yes}
+use Rattle.centralized_telescope.specs.laws.VerifierLaws.{yes-exists, exists-yes}
 use Rattle.centralized_telescope.specs.Demand3.{Accepted, OfVerifier}
-use Rattle.centralized_telescope.proofs.VerdictAnswers.{list-refused, left-to-judge}
+use Rattle.centralized_telescope.proofs.VerdictAnswers.{list-met, left-to-judge}
 
 module _ (p : Params) (R S : ℕ) (bytes ends marks indexes : List ℕ) where
   abbrev es : List Element
@@ -139,7 +139,7 @@ module _ (p : Params) (R S : ℕ) (bytes ends marks indexes : List ℕ) where
     met = elim (eq-or-lt-of-le {n = 0} {m = list} (omega arith)) [
       | inl e ↦ let a : list ≡ 0 = sym e in accepted a (rw (← left-to-judge p R S bytes ends marks indexes s a) judged-so)
       | inr l ↦
-          by-list (sym (list-refused p R S bytes ends marks indexes s list refl (λ z. omega arith))) l
+          by-list (sym (list-met p R S bytes ends marks indexes s (λ z. omega arith))) l
           (check-range bytes ends marks indexes)
     ]
 

@@ -11,13 +11,13 @@ use lib.ListN.{length}
 use Rattle.centralized_telescope.specs.declared.params.Params.{Params}
 use Rattle.centralized_telescope.specs.declared.proof.Outcome.{Outcome}
 use Rattle.centralized_telescope.specs.declared.proof.Outcome.the-variants as outcome
-use Rattle.centralized_telescope.specs.TestLaws.{either-way}
+use Rattle.centralized_telescope.specs.laws.TestLaws.{either-way}
 use Rattle.centralized_telescope.specs.Rounds.{saysYes}
 use Rattle.centralized_telescope.specs.Chains.{Try, Chain}
 use Rattle.centralized_telescope.specs.Search.{placesIn, nextAt, idOf, grown, along, chains, passing}
-use Rattle.centralized_telescope.specs.Walk.{Ended, found, missing, walk, counted}
-use Rattle.centralized_telescope.specs.WalkLaws.{walk-full, andThen, walk-append, walk-bound, walk-one}
-use Rattle.centralized_telescope.specs.Visit.{visited, walked, outcomeOf, written, writtenFrom}
+use Rattle.centralized_telescope.specs.inner.Walk.{Ended, found, missing, walk, counted}
+use Rattle.centralized_telescope.specs.laws.WalkLaws.{walk-full, andThen, walk-append, walk-bound, walk-one}
+use Rattle.centralized_telescope.specs.inner.Visit.{visited, walked, outcomeOf, written, writtenFrom}
 
 module _ (T : Try) (S : ℕ) where
   abbrev bound : ℕ

@@ -11,9 +11,9 @@ use lib.Ieee.{Float, nan, inf, fin, binary64, up, down, lt, ofInt, inFloat, toUn
 use lib.Ieee.Fits.{down-pos}
 use lib.Ieee.Back.{round-whole}
 use lib.Ieee.Exact.{HasValue}
-use Rattle.sampling.specs.CommonLaws.{same-test}
+use Rattle.sampling.specs.laws.CommonLaws.{same-test}
 use Rattle.centralized_telescope.specs.Params.{floor, ceil}
-use Rattle.centralized_telescope.specs.SmallCaseLaws.{Inside, floor-most}
+use Rattle.centralized_telescope.specs.laws.SmallCaseLaws.{Inside, floor-most}
 
 -- ---- the floor: what the truncation asks, and what it answers
 

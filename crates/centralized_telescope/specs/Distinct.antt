@@ -1,10 +1,12 @@
 -- Document 01, Distinctness: whether each element of a list has data of its own, whatever the indexes.
 use mathlib.Core.Path.{_≡_}
 use mathlib.Core.Bool.{Bool, true, false, cond, not, _&&_}
+use mathlib.Core.Logic.{_↔_}
 use mathlib.Core.List.{List, [], _∷_}
 use Prim.Native.Nat.{ℕ, _<_}
 use lib.Dec.{eqb}
 use lib.ListN.{length}
+use Rattle.centralized_telescope.specs.Refusals.{refusalNumber}
 use Rattle.centralized_telescope.specs.Elements.{Element, elements, elementAt, listCheck}
 use Rattle.centralized_telescope.specs.declared.misc.Distinctness.{Distinctness}
 use Rattle.centralized_telescope.specs.declared.misc.Distinctness.the-variants as is
@@ -13,7 +15,7 @@ use Rattle.centralized_telescope.specs.declared.misc.Distinctness.the-va
 abbrev pub Distinct : List Element → Type 0
 Distinct es = (i j : ℕ) → i < j → j < length es → elementAt es i .bytes ≡ elementAt es j .bytes → ⊥
 
--- ---- the yes or no: `DistinctLaws` shows that it is yes exactly when the list is distinct
+-- ---- the yes or no
 
 unfoldable pub sameBytes : List ℕ → List ℕ → Bool
 sameBytes [] [] = true
@@ -30,6 +32,10 @@ unfoldable pub noneEqual : List Element → Bool
 noneEqual [] = true
 noneEqual (e ∷ es) = noneSame (e .bytes) es && noneEqual es
 
+-- it is yes exactly when the list is distinct
+abbrev pub distinctExactly : Type 0
+distinctExactly = (es : List Element) → (noneEqual es ≡ true) ↔ Distinct es
+
 -- ---- the answer: 0 with the yes or no, or the list's number, 4 or 5, with no
 
 unfoldable pub distinct : List ℕ → List ℕ → List ℕ → List ℕ → ℕ × Bool
@@ -40,5 +46,4 @@ distinct bytes ends marks indexes =
 abbrev pub distinctNumber : Distinctness → ℕ × Bool
 distinctNumber is.Distinct = (0, true)
 distinctNumber is.Repeated = (0, false)
-distinctNumber is.Malformed = (4, false)
-distinctNumber is.TooLarge = (5, false)
+distinctNumber (is.Refused k) = (refusalNumber k, false)

@@ -7,6 +7,7 @@ use lib.Dec.{ltb, eqb}
 use lib.ListN.{length, take, drop, getD}
 use Rattle.sampling.specs.BigEndian.{bytesOf}
 use Rattle.centralized_telescope.specs.Lists.{someOf}
+use Rattle.centralized_telescope.specs.Refusals.{refusalNumber}
 use Rattle.centralized_telescope.specs.declared.types.ListCheck.{ListCheck}
 use Rattle.centralized_telescope.specs.declared.types.ListCheck.the-variants as check
 
@@ -54,20 +55,6 @@ elements bytes ends marks indexes = elementsFrom 0 bytes ends marks indexes
 unfoldable pub elementAt : List Element → ℕ → Element
 elementAt es place = getD es place (record { bytes = []; index = none })
 
--- ---- one place of a lent list, as the code reads it: `ElementsLaws` ties it to `elementAt`
-
--- where the data of the element at a place starts: of the first at 0, of each other at the end before it
-unfoldable pub startAt : List ℕ → ℕ → ℕ
-startAt ends place = getD (0 ∷ ends) place 0
-
--- its data bytes
-unfoldable pub dataAt : List ℕ → List ℕ → ℕ → List ℕ
-dataAt bytes ends place = take (getD ends place 0 - startAt ends place) (drop (startAt ends place) bytes)
-
--- its index, if it has one
-abbrev pub indexAt : List ℕ → List ℕ → ℕ → Option ℕ
-indexAt marks indexes place = indexOf (getD marks place 0) (getD indexes place 0)
-
 -- ---- 01, the table, list, 4: unequal lengths, a mark above 1, an end below the one before or past the data
 
 abbrev pub markOver : List ℕ → Bool
@@ -95,13 +82,7 @@ tooLarge ends = ltb 65536 (length ends) || dataLong 0 ends
 unfoldable pub listCheck : List ℕ → List ℕ → List ℕ → List ℕ → ℕ
 listCheck bytes ends marks indexes = cond (malformed bytes ends marks indexes) 4 (cond (tooLarge ends) 5 0)
 
--- the same number by what is found in a list: the lengths of ends, marks and indexes; a mark over 1, a wrong end, over-long data
-abbrev pub foundNumber : ℕ → ℕ → ℕ → Bool → Bool → Bool → ℕ
-foundNumber n m x over wrong long =
-    cond (not (eqb n m) || (not (eqb n x) || (over || wrong))) 4 (cond (ltb 65536 n || long) 5 0)
-
 -- 01's number for each answer of the check
 abbrev pub listNumber : ListCheck → ℕ
 listNumber check.Accepted = 0
-listNumber check.Malformed = 4
-listNumber check.TooLarge = 5
+listNumber (check.Refused k) = refusalNumber k

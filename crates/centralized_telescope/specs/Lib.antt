@@ -1,35 +1,19 @@
--- The definitions that the contracts of `centralized_telescope` cite, in the order in which they build on each other, each with its laws.
-pub mod TestLaws
+-- What the contracts of `centralized_telescope` and its theorems cite, in reading order. What follows from it stands in laws/, what inner
+-- functions promise each other in inner/: neither has to be believed.
 pub mod Lists
-pub mod ListsLaws
+pub mod Refusals
 pub mod Params
-pub mod ParamsLaws
-pub mod SmallCaseLaws
 pub mod Elements
-pub mod ElementsLaws
+pub mod Distinct
 pub mod Rounds
-pub mod RoundsLaws
 pub mod Bins
-pub mod BinsLaws
-pub mod BinPasses
 pub mod Chains
-pub mod OrderLaws
 pub mod Search
-pub mod TryLaws
-pub mod SearchLaws
-pub mod Walk
-pub mod WalkLaws
-pub mod Visit
 pub mod Prover
-pub mod OneBinLaws
 pub mod Verifier
-pub mod VerifierLaws
 pub mod Exports
+pub mod WrittenOut
 pub mod Demand3
 pub mod AllCases
-pub mod WrittenOut
-pub mod WrittenOutLaws
-pub mod Distinct
-pub mod DistinctLaws
-pub mod Sorting
-pub mod SortingLaws
+pub mod laws
+pub mod inner

@@ -5,6 +5,7 @@ use lib.IntN.{pos}
 use lib.Dec.{ltb, eqb}
 use lib.Ieee.{Float, nan, inf, fin, binary64, up, down, round, ofInt, add, mul, div}
 use Rattle.sampling.specs.Sample.{outside, valueOf, thresholdOrRefusal}
+use Rattle.centralized_telescope.specs.Refusals.{refusalNumber}
 use Rattle.centralized_telescope.specs.declared.params.Params.{Params}
 use Rattle.centralized_telescope.specs.declared.params.Checked.{Checked}
 use Rattle.centralized_telescope.specs.declared.params.SmallSettings.{SmallSettings}
@@ -35,9 +36,7 @@ checked p = cond (setSizeOut (p .«set_size»)) (1, 0) (cond (limitBroken p) (2,
 -- 01's number, and X, for each answer of the check
 abbrev pub checkedNumber : Checked → ℕ × ℕ
 checkedNumber (check.Lawful x) = (0, valueOf x)
-checkedNumber check.SetSizeRefused = (1, 0)
-checkedNumber check.LimitRefused = (2, 0)
-checkedNumber check.ProbabilityRefused = (3, 0)
+checkedNumber (check.Refused k) = (refusalNumber k, 0)
 
 -- ---- doubles. Each result is rounded: IEEE 754-2019, 5.4.1, to the nearest, ties to even
 
@@ -122,5 +121,4 @@ smallCase u c = cond (proofSizeOut u) (30, zeros) (cond (completenessOut c) (31,
 -- 01's number and the settings for each answer of the small case
 abbrev pub smallCaseNumber : SmallCase → ℕ × SmallSettings
 smallCaseNumber (small.Settings s) = (0, s)
-smallCaseNumber small.ProofSizeRefused = (30, zeros)
-smallCaseNumber small.CompletenessRefused = (31, zeros)
+smallCaseNumber (small.Refused k) = (refusalNumber k, zeros)

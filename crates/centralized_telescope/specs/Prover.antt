@@ -11,6 +11,7 @@ use Rattle.centralized_telescope.specs.declared.proof.ProofSearch.the-va
 use Rattle.centralized_telescope.specs.Params.{checked}
 use Rattle.centralized_telescope.specs.Elements.{Element, elements, listCheck}
 use Rattle.centralized_telescope.specs.Lists.{over, firstNumber}
+use Rattle.centralized_telescope.specs.Refusals.{refusalNumber}
 use Rattle.centralized_telescope.specs.Bins.{binTable}
 use Rattle.centralized_telescope.specs.Chains.{Chain, tryOf}
 use Rattle.centralized_telescope.specs.Search.{binsOf, searched}
@@ -82,10 +83,4 @@ abbrev pub provedBy : ProofSearch → List ℕ → List ℕ → Proved
 provedBy (answer.Found R S count) places table = record { number = 0; retry = R .0; search = S .0; count = count; places = places; table = table }
 provedBy (answer.NotFoundInBounds count) places table = record { number = 11; retry = 0; search = 0; count = count; places = places; table = table }
 provedBy (answer.NotFound count) places table = record { number = 12; retry = 0; search = 0; count = count; places = places; table = table }
-provedBy answer.SetSizeRefused places table = refused 1 places table
-provedBy answer.LimitRefused places table = refused 2 places table
-provedBy answer.ProbabilityRefused places table = refused 3 places table
-provedBy answer.Malformed places table = refused 4 places table
-provedBy answer.TooLarge places table = refused 5 places table
-provedBy answer.WorkspaceShort places table = refused 6 places table
-provedBy answer.NotEnoughElements places table = refused 10 places table
+provedBy (answer.Refused k) places table = refused (refusalNumber k) places table

@@ -3,15 +3,13 @@ use mathlib.Core.Bool.{Bool, cond}
 use mathlib.Core.List.{List, [], _∷_, _++_}
 use mathlib.Core.Option.{Option, none, some}
 use Prim.Native.Nat.{ℕ}
-use lib.Dec.{eqb, ltb}
+use lib.Dec.{eqb}
 use lib.Ieee.{Float}
 use lib.ListN.{take}
-use Rattle.sampling.specs.BigEndian.{bigEndian, bytesOf}
+use Rattle.sampling.specs.BigEndian.{bytesOf}
 use Rattle.sampling.specs.Fips180.{sha256}
 use Rattle.sampling.specs.Sample.{uniform, bernoulli}
 use Rattle.centralized_telescope.specs.Elements.{Element, tail}
-use Rattle.centralized_telescope.specs.declared.round.Id.{Id}
-use Rattle.centralized_telescope.specs.declared.round.Id.the-variants as id
 
 -- ---- 01, Rounds, labels: their ASCII bytes alone
 
@@ -57,12 +55,3 @@ binOf n R e = drawnBelow n (sha256 (binLabel ++ (bytesOf 8 R ++ tail e)))
 -- 01, Search, passing: the yes or no with q, from the hash of a last hash
 unfoldable pub saysYes : Float → List ℕ → Bool
 saysYes q h = eqb (bernoulli (take 16 (sha256 (proofLabel ++ h))) q) 1
-
--- the same yes or no where X is worked out already
-unfoldable pub belowX : ℕ → List ℕ → Bool
-belowX x h = ltb (bigEndian 16 (take 16 (sha256 (proofLabel ++ h)))) x
-
--- ---- the answers of the code: an id or a bin, or none
-abbrev pub idOption : Id → Option ℕ
-idOption (id.At n) = some n
-idOption id.Nowhere = none

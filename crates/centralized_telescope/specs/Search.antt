@@ -1,5 +1,5 @@
 -- Document 01, Search: the existing chains of a try as a list in search order, and what is read off it: K, the try's count, and what it
--- finds; then the tries. That the list holds exactly the existing chains, each once and in order, is a law: specs/SearchLaws.
+-- finds; then the tries. That the list holds exactly the existing chains, each once and in order, is a law: specs/laws/SearchLaws.
 use mathlib.Core.Bool.{Bool, false, cond}
 use mathlib.Core.List.{List, [], _∷_, _++_, map}
 use mathlib.Core.Option.{Option, none, some, Option·getD}

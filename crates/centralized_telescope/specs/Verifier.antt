@@ -10,6 +10,7 @@ use Rattle.centralized_telescope.specs.declared.params.Params.{Params}
 use Rattle.centralized_telescope.specs.Params.{checked}
 use Rattle.centralized_telescope.specs.Elements.{Element, elements, listCheck}
 use Rattle.centralized_telescope.specs.Lists.{firstNumber}
+use Rattle.centralized_telescope.specs.Refusals.{refusalNumber}
 use Rattle.centralized_telescope.specs.Rounds.{startHash, nextHash, roundId, binOf, saysYes}
 use Rattle.centralized_telescope.specs.declared.proof.Verdict.{Verdict}
 use Rattle.centralized_telescope.specs.declared.proof.Verdict.the-variants as answer
@@ -58,11 +59,7 @@ verdict p R S bytes ends marks indexes =
 -- 01's number for each answer of the verifier
 abbrev pub verdictNumber : Verdict → ℕ
 verdictNumber answer.Accepted = 0
-verdictNumber answer.SetSizeRefused = 1
-verdictNumber answer.LimitRefused = 2
-verdictNumber answer.ProbabilityRefused = 3
-verdictNumber answer.Malformed = 4
-verdictNumber answer.TooLarge = 5
 verdictNumber answer.IncorrectNumberElements = 20
 verdictNumber answer.InvalidParameters = 21
 verdictNumber answer.InvalidProof = 22
+verdictNumber (answer.Refused k) = refusalNumber k

@@ -5,8 +5,9 @@ use mathlib.Core.List.{List, [], _∷_, _++_, map}
 use Prim.Native.Nat.{ℕ, _+_}
 use lib.Dec.{ltb, leb, eqb}
 use lib.ListN.{length}
-use Rattle.centralized_telescope.specs.Elements.{Element, elements, elementAt, dataAt, markOf, numberOf, listCheck}
+use Rattle.centralized_telescope.specs.Elements.{Element, elements, elementAt, markOf, numberOf, listCheck}
 use Rattle.centralized_telescope.specs.Lists.{someOf, over, firstNumber}
+use Rattle.centralized_telescope.specs.Refusals.{refusalNumber}
 use Rattle.centralized_telescope.specs.declared.proof_list.Written.{Written}
 use Rattle.centralized_telescope.specs.declared.proof_list.Written.the-variants as w
 
@@ -35,11 +36,6 @@ chosen places bytes ends marks indexes = map (elementAt (elements bytes ends mar
 -- a place is past a list of `len` elements
 abbrev pub placeOut : ℕ → List ℕ → Bool
 placeOut len places = someOf (leb len) places
-
--- their data bytes, as the code reads them: `WrittenOutLaws` ties it to `joined`
-unfoldable pub dataOf : List ℕ → List ℕ → List ℕ → List ℕ
-dataOf bytes ends [] = []
-dataOf bytes ends (place ∷ places) = dataAt bytes ends place ++ dataOf bytes ends places
 
 -- ---- the answer: its number and how many data bytes were written; and each lent buffer afterwards
 
@@ -92,6 +88,4 @@ module _ (places bytes ends marks indexes : List ℕ) (outBytes outEnds outMarks
 -- the number for each answer, and the buffers with it
 abbrev pub outcome : Written → List ℕ → List ℕ → List ℕ → List ℕ → WrittenOut
 outcome (w.List len) bytes ends marks indexes = wrote len bytes ends marks indexes
-outcome w.Malformed bytes ends marks indexes = unwritten 4 bytes ends marks indexes
-outcome w.TooLarge bytes ends marks indexes = unwritten 5 bytes ends marks indexes
-outcome w.TooShort bytes ends marks indexes = unwritten 42 bytes ends marks indexes
+outcome (w.Refused k) bytes ends marks indexes = unwritten (refusalNumber k) bytes ends marks indexes

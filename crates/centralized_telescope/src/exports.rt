@@ -7,6 +7,9 @@ ghost use Rattle.sampling.specs.Sample.{valueOf, thresholdOrRefusal};
 ghost use Rattle.centralized_telescope.specs.Elements.{elements, endWrong, dataLong, listCheck, listNumber};
 ghost use Rattle.centralized_telescope.specs.Verifier.{judged, verdictNumber};
 ghost use Rattle.centralized_telescope.specs.Exports.{settingsOf, numbersOf, exportedVerdict};
+use crate::errors::Refusal;
+use crate::errors::refusal_number;
+use crate::numbers::number;
 use crate::params::Checked;
 use crate::params::Params;
 use crate::params::check_params;
@@ -14,11 +17,8 @@ use crate::proof::Verdict;
 use crate::proof::judge;
 use crate::round::RetryCounter;
 use crate::round::SearchCounter;
-use crate::telescope::list_verdict;
-use crate::telescope::settings_verdict;
 use crate::types::ListCheck;
 use crate::types::list_answer;
-use crate::types::number;
 use crate::types::some_data_long;
 use crate::types::some_end_wrong;
 use crate::types::some_mark_over;
@@ -160,20 +160,24 @@ fn verify_bytes(
 ) -> Verdict
     ensures { λ r. ⌜ verdictNumber r ≡ exportedVerdict p (retry .0) (search .0) (now («data» .entry)) (now (ends .entry)) (now (marks .entry)) (now (indexes .entry)) ⌝ }
 {
-    let settings = check_params(p);
-    let Checked::Lawful(x) = settings else {
-        return settings_verdict(settings);
+    let x = match check_params(p) {
+        Checked::Lawful(x) => x,
+        Checked::Refused(k) => {
+            return Verdict::Refused(k);
+        }
     };
     if ends.len() % 4 != 0 {
-        return Verdict::Malformed;
+        return Verdict::Refused(Refusal::Malformed);
     }
     if indexes.len() % 8 != 0 {
-        return Verdict::Malformed;
+        return Verdict::Refused(Refusal::Malformed);
     }
-    let list = check_bytes(data, ends, marks, indexes);
-    let ListCheck::Accepted = list else {
-        return list_verdict(list);
-    };
+    match check_bytes(data, ends, marks, indexes) {
+        ListCheck::Accepted => {}
+        ListCheck::Refused(k) => {
+            return Verdict::Refused(k);
+        }
+    }
     if 1024 < marks.len() {
         return Verdict::IncorrectNumberElements;
     }
@@ -186,14 +190,10 @@ fn verdict_number(v: Verdict) -> u32
 {
     match v {
         Verdict::Accepted => 0,
-        Verdict::SetSizeRefused => 1,
-        Verdict::LimitRefused => 2,
-        Verdict::ProbabilityRefused => 3,
-        Verdict::Malformed => 4,
-        Verdict::TooLarge => 5,
         Verdict::IncorrectNumberElements => 20,
         Verdict::InvalidParameters => 21,
         Verdict::InvalidProof => 22,
+        Verdict::Refused(k) => refusal_number(k),
     }
 }
 

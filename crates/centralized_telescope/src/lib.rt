@@ -1,8 +1,10 @@
 // The centralized telescope over what `sampling` promises. What is named here is all that a user sees.
 
 mod bins;
+mod errors;
 mod exports;
 mod misc;
+mod numbers;
 mod params;
 mod proof;
 mod proof_list;
@@ -11,6 +13,8 @@ mod telescope;
 mod theorems;
 mod types;
 
+pub use errors::Refusal;
+pub use errors::refusal_number;
 pub use misc::Distinctness;
 pub use misc::check_distinct;
 pub use params::Checked;
@@ -29,6 +33,7 @@ pub use telescope::prove;
 pub use telescope::verify;
 pub use theorems::all_cases;
 pub use theorems::demand_3;
+pub use theorems::distinct_exactly;
 pub use theorems::served_example;
 pub use types::ListCheck;
 pub use types::check_list;

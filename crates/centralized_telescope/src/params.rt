@@ -1,5 +1,6 @@
 // The settings, their limits, and the settings of the small case.
 
+use crate::errors::Refusal;
 use sampling::Threshold;
 use sampling::Words;
 ghost use mathlib.Core.Path.{_≡_};
@@ -21,9 +22,7 @@ pub struct Params {
 // What the check of the settings answers. Lawful settings come with the threshold of their q, so that no caller works it out again.
 pub enum Checked {
     Lawful(Words),
-    SetSizeRefused,
-    LimitRefused,
-    ProbabilityRefused,
+    Refused(Refusal),
 }
 
 // The small case's settings: every one but set_size.
@@ -38,8 +37,7 @@ pub struct SmallSettings {
 // What the small case answers.
 pub enum SmallCase {
     Settings(SmallSettings),
-    ProofSizeRefused,
-    CompletenessRefused,
+    Refused(Refusal),
 }
 
 // Whether n is not 1 to hi.
@@ -73,14 +71,14 @@ pub fn check_params(p: Params) -> Checked
     ensures { λ r. ⌜ checkedNumber r ≡ checked p ⌝ }
 {
     if is_not_one_to(32_768, p.set_size) {
-        return Checked::SetSizeRefused;
+        return Checked::Refused(Refusal::SetSize);
     }
     if is_limit_broken(p) {
-        return Checked::LimitRefused;
+        return Checked::Refused(Refusal::Limit);
     }
     let t = sampling::threshold_of(p.q);
     let Threshold::At(x) = t else {
-        return Checked::ProbabilityRefused;
+        return Checked::Refused(Refusal::Probability);
     };
     Checked::Lawful(x)
 }
@@ -146,10 +144,10 @@ pub fn param_small_case(u: u64, c: f64) -> SmallCase
     ensures { λ r. ⌜ smallCaseNumber r ≡ smallCase u c ⌝ }
 {
     if is_not_one_to(1_024, u) {
-        return SmallCase::ProofSizeRefused;
+        return SmallCase::Refused(Refusal::ProofSize);
     }
     if is_completeness_out(c) {
-        return SmallCase::CompletenessRefused;
+        return SmallCase::Refused(Refusal::Completeness);
     }
     SmallCase::Settings(small_settings(u, c))
 }

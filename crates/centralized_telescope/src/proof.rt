@@ -8,19 +8,20 @@ ghost use Rattle.sampling.specs.Sample.{valueOf, thresholdOrRefusal};
 ghost use Rattle.centralized_telescope.specs.Params.{checked};
 ghost use Rattle.centralized_telescope.specs.Elements.{elements, listCheck};
 ghost use Rattle.centralized_telescope.specs.Prover.{provedBy, served};
-ghost use Rattle.centralized_telescope.specs.Visit.{tryOn, visited, walked, tried, outcomeOf, attemptOf, written, writtenFrom, Ready, Span};
+ghost use Rattle.centralized_telescope.specs.inner.Visit.{tryOn, visited, walked, tried, outcomeOf, attemptOf, written, writtenFrom, Ready, Span};
 ghost use Rattle.centralized_telescope.specs.Verifier.{lastHash, yesOn, judged, verdictNumber};
 use crate::bins::fill_table;
+use crate::errors::Refusal;
+use crate::numbers::wide;
 use crate::params::Params;
 use crate::round::Id;
 use crate::round::RetryCounter;
 use crate::round::SearchCounter;
-use crate::round::bin_of;
+use crate::round::bin_hash;
 use crate::round::next_hash;
+use crate::round::proof_hash;
 use crate::round::round_id;
-use crate::round::says_yes;
 use crate::round::start_hash;
-use crate::types::wide;
 use sampling::Words;
 
 // ---- The search
@@ -96,7 +97,7 @@ fn visit(
             places,
         );
     }
-    if says_yes(h, x) {
+    if proof_hash(h, x) {
         return Outcome::Found(steps + 1);
     }
     Outcome::Missing(steps + 1)
@@ -179,7 +180,7 @@ fn walk(
 }
 
 // One try: its chains, search counter by search counter, over the bin table of its retry counter.
-fn search_try(
+fn prove_index(
     p: Params,
     x: Words,
     retry: RetryCounter,
@@ -244,17 +245,11 @@ pub enum ProofSearch {
     Found(RetryCounter, SearchCounter, u64),
     NotFoundInBounds(u64),
     NotFound(u64),
-    SetSizeRefused,
-    LimitRefused,
-    ProbabilityRefused,
-    Malformed,
-    TooLarge,
-    WorkspaceShort,
-    NotEnoughElements,
+    Refused(Refusal),
 }
 
 // The tries, R from 1 to max_retries, up to the first find.
-pub fn make_tries(
+pub fn prove_routine(
     p: Params,
     x: Words,
     data: &[u8],
@@ -281,7 +276,7 @@ pub fn make_tries(
             p.set_size as usize,
             table,
         );
-        let one = search_try(p, x, retry, data, ends, marks, indexes, table, places);
+        let one = prove_index(p, x, retry, data, ends, marks, indexes, table, places);
         match one {
             Attempt::Found(search, c) => {
                 return ProofSearch::Found(retry, search, steps + c);
@@ -302,19 +297,14 @@ pub fn make_tries(
 // What the verifier answers.
 pub enum Verdict {
     Accepted,
-    // the settings
-    SetSizeRefused,
-    LimitRefused,
-    ProbabilityRefused,
-    // the list of the proof's elements
-    Malformed,
-    TooLarge,
     // the list's length isn't proof_size
     IncorrectNumberElements,
     // a counter isn't below its limit
     InvalidParameters,
     // the elements make no chain that passes
     InvalidProof,
+    // the settings are, or the list of the proof's elements
+    Refused(Refusal),
 }
 
 // Whether the chain of an accepted list's elements, from the first to the last, exists and its last hash says yes.
@@ -339,7 +329,7 @@ fn chain_passes(
     let mut id = first;
     let mut followed = 0;
     while followed < ends.len() {
-        let drawn = bin_of(retry, data, ends, marks, indexes, followed, p.set_size);
+        let drawn = bin_hash(retry, data, ends, marks, indexes, followed, p.set_size);
         let Id::At(bin) = drawn else {
             return false;
         };
@@ -355,7 +345,7 @@ fn chain_passes(
         id = i;
         followed += 1;
     }
-    says_yes(h, x)
+    proof_hash(h, x)
 }
 
 // The verdict on an accepted list under lawful settings, x being the threshold X of their q: by length, else by counters,

@@ -7,7 +7,9 @@ ghost use Prim.Native.Nat.{_+_, _<_, _≤_};
 ghost use lib.Dec.{ltb};
 ghost use lib.ListN.{length, take, drop};
 ghost use Rattle.centralized_telescope.specs.Elements.{endWrong, listCheck};
-ghost use Rattle.centralized_telescope.specs.WrittenOut.{placeOut, dataOf, joined, chosen, buffersShort, wrote, written, proofWritten, outcome};
+ghost use Rattle.centralized_telescope.specs.WrittenOut.{placeOut, joined, chosen, buffersShort, wrote, written, proofWritten, outcome};
+ghost use Rattle.centralized_telescope.specs.inner.ListReading.{dataOf};
+use crate::errors::Refusal;
 use crate::types::ListCheck;
 use crate::types::check_list;
 use crate::types::data_of;
@@ -17,12 +19,8 @@ use crate::types::index_of;
 pub enum Written {
     // with the number of data bytes written
     List(usize),
-    // the lent list is, or a place is past it
-    Malformed,
-    // the lent list is, or there are over 65,536 places
-    TooLarge,
-    // a lent buffer is
-    TooShort,
+    // as the lent list is; or Malformed for a place past it, TooLarge for over 65,536 places, BufferShort
+    Refused(Refusal),
 }
 
 // Whether a place is past a list of `len` elements.
@@ -144,10 +142,10 @@ fn write_accepted(
         (now («out_data» .entry)) (now («out_ends» .entry)) (now («out_marks» .entry)) (now («out_indexes» .entry)) ⌝ }
 {
     if 65536 < places.len() {
-        return Written::TooLarge;
+        return Written::Refused(Refusal::TooLarge);
     }
     if some_place_out(places, ends.len()) {
-        return Written::Malformed;
+        return Written::Refused(Refusal::Malformed);
     }
     if some_buffer_short(
         places,
@@ -158,7 +156,7 @@ fn write_accepted(
         out_marks.len(),
         out_indexes.len(),
     ) {
-        return Written::TooShort;
+        return Written::Refused(Refusal::BufferShort);
     }
     Written::List(write_elements(
         places,
@@ -191,8 +189,7 @@ pub fn write_proof(
         (now («out_data» .entry)) (now («out_ends» .entry)) (now («out_marks» .entry)) (now («out_indexes» .entry)) ⌝ }
 {
     match check_list(data, ends, marks, indexes) {
-        ListCheck::Malformed => Written::Malformed,
-        ListCheck::TooLarge => Written::TooLarge,
+        ListCheck::Refused(k) => Written::Refused(k),
         ListCheck::Accepted => write_accepted(
             places,
             data,

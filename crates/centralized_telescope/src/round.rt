@@ -6,7 +6,8 @@ ghost use lib.ListN.{length, take};
 ghost use Rattle.sampling.specs.Fips180.{sha256};
 ghost use Rattle.sampling.specs.Sample.{drawNumber, valueOf};
 ghost use Rattle.centralized_telescope.specs.Elements.{elements, elementAt, tail, listCheck};
-ghost use Rattle.centralized_telescope.specs.Rounds.{startHash, nextHash, drawn, roundId, binOf, belowX, idOption};
+ghost use Rattle.centralized_telescope.specs.Rounds.{startHash, nextHash, drawn, roundId, binOf};
+ghost use Rattle.centralized_telescope.specs.inner.RoundAnswers.{belowX, idOption};
 use crate::types::data_of;
 use crate::types::index_bytes;
 use sampling::Draw;
@@ -116,7 +117,7 @@ pub fn round_id(h: [u8; 32], n: u64) -> Id
 }
 
 // The bin of the element at a place, in the try `retry`.
-pub fn bin_of(
+pub fn bin_hash(
     retry: RetryCounter,
     data: &[u8],
     ends: &[u32],
@@ -144,7 +145,7 @@ pub fn bin_of(
 }
 
 // Whether a chain of full length with the last hash h passes, x being the threshold X of q.
-pub fn says_yes(h: [u8; 32], x: Words) -> bool
+pub fn proof_hash(h: [u8; 32], x: Words) -> bool
     ensures { λ r. ⌜ r ≡ belowX (valueOf x) h ⌝ }
 {
     below_threshold(first_half(digest(b"Telescope-proof_hash", &h, b"", b"")), x)

@@ -1,19 +1,19 @@
 // Elements as they are lent: data bytes, ends, marks and indexes. All that is known of a lent list elsewhere comes from here.
 ghost use mathlib.Core.Path.{_≡_};
 ghost use mathlib.Core.Bool.{false};
-ghost use Prim.Native.Nat.{_+_, _^_, _<_, _≤_, min};
-ghost use lib.ListN.{length, take, drop};
-ghost use Rattle.sampling.specs.BigEndian.{bigEndian};
-ghost use Rattle.centralized_telescope.specs.Elements.{markOver, endWrong, dataLong, foundNumber, listCheck, listNumber, startAt, dataAt, indexAt, indexBytes, markOf, numberOf};
+ghost use Prim.Native.Nat.{_<_, _≤_};
+ghost use lib.ListN.{length, take};
+ghost use Rattle.centralized_telescope.specs.Elements.{markOver, endWrong, dataLong, listCheck, listNumber, indexBytes, markOf, numberOf};
+ghost use Rattle.centralized_telescope.specs.inner.ListReading.{foundNumber, startAt, dataAt, indexAt};
+use crate::errors::Refusal;
+use crate::numbers::wide;
 use sampling::eight_bytes;
 
 // What the check of a lent list answers.
 pub enum ListCheck {
     Accepted,
-    // ends, marks and indexes of unequal lengths; a mark above 1; an end too low or too high
-    Malformed,
-    // too many elements, or too much data in one
-    TooLarge,
+    // Malformed: ends, marks and indexes of unequal lengths; a mark above 1; an end too low or too high. Or TooLarge
+    Refused(Refusal),
 }
 
 // Whether a mark is neither 0 nor 1.
@@ -67,37 +67,6 @@ pub fn some_data_long(ends: &[u32], first: u32) -> bool
     false
 }
 
-// A number of a list, such as an end, as a place.
-pub fn wide(x: u32) -> usize
-    ensures { λ r. ⌜ (r ≡ x) × (r < 4294967296) ⌝ }
-{
-    x as usize
-}
-
-// The lower of two numbers.
-pub fn least(a: usize, b: usize) -> usize
-    ensures { λ r. ⌜ r ≡ min a b ⌝ }
-{
-    if a < b {
-        return a;
-    }
-    b
-}
-
-// The number that k bytes make, the most significant first.
-pub fn number(bytes: &[u8], at: usize, k: usize) -> u64
-    requires { ⌜ (at + k ≤ length (now bytes)) × (k ≤ 8) ⌝ }
-    ensures { λ r. ⌜ (r ≡ bigEndian k (drop at (now (bytes .entry)))) × (r < 256 ^ k) ⌝ }
-{
-    let mut v: u64 = 0;
-    let mut i = 0;
-    while i < k {
-        v = v * 256 + bytes[at + i] as u64;
-        i += 1;
-    }
-    v
-}
-
 // The answer by what is found in a list, lengths and faults. Any fault that is number 4, anywhere in the list, comes before any that is 5.
 pub fn list_answer(
     ends: usize,
@@ -110,22 +79,22 @@ pub fn list_answer(
     ensures { λ r. ⌜ listNumber r ≡ foundNumber ends marks indexes «mark_over» «end_wrong» «data_long» ⌝ }
 {
     if ends != marks {
-        return ListCheck::Malformed;
+        return ListCheck::Refused(Refusal::Malformed);
     }
     if ends != indexes {
-        return ListCheck::Malformed;
+        return ListCheck::Refused(Refusal::Malformed);
     }
     if mark_over {
-        return ListCheck::Malformed;
+        return ListCheck::Refused(Refusal::Malformed);
     }
     if end_wrong {
-        return ListCheck::Malformed;
+        return ListCheck::Refused(Refusal::Malformed);
     }
     if 65536 < ends {
-        return ListCheck::TooLarge;
+        return ListCheck::Refused(Refusal::TooLarge);
     }
     if data_long {
-        return ListCheck::TooLarge;
+        return ListCheck::Refused(Refusal::TooLarge);
     }
     ListCheck::Accepted
 }

@@ -1,14 +1,14 @@
 -- The exported calls by their tests.
-use mathlib.Core.Path.{_≡_, ap, _∙_}
+use mathlib.Core.Path.{_≡_, refl, ap, _∙_}
 use mathlib.Core.Bool.{Bool}
 use mathlib.Core.List.{List, [], _∷_, _++_}
-use Prim.Native.Nat.{ℕ}
+use Prim.Native.Nat.{ℕ, zero, suc}
 use native.Mathlib.Omega.{arith}
 use borrow.Author.Tests.{eq-eqb, ne-eqb}
 use lib.Ieee.{Float}
 use lib.ListN.{length, take, drop, set, drop-of-length-le}
 use lib.Seq.{sets-eq}
-use Rattle.sampling.specs.CommonLaws.{copied}
+use Rattle.sampling.specs.laws.CommonLaws.{copied}
 use Rattle.sampling.specs.Hash.{hashed}
 use Rattle.centralized_telescope.specs.Distinct.{distinct}
 use Rattle.centralized_telescope.specs.Params.{smallCase}
@@ -42,7 +42,15 @@ pub answered : (u : ℕ) (c : Float) (out : List ℕ) (k : ℕ) (s : SmallSettin
 unfolding exportedSmallCase
 answered u c out k s a h e p = rw (eq-eqb (length out) 5 h, ← e) p
 
+pub not-settled : (k : ℕ) (s : SmallSettings) (out : List ℕ) → (k ≡ 0 → ⊥) → (k, out) ≡ withSettings k s out
+not-settled zero s out n = absurd (n refl)
+not-settled (suc k) s out n = refl
+
 -- ---- distinctness
+
+pub not-said : (k : ℕ) (r : Bool) → (k ≡ 0 → ⊥) → k ≡ said k r
+not-said zero r n = absurd (n refl)
+not-said (suc k) r n = refl
 
 pub told : (d n m x : List ℕ) (k : ℕ) (r : Bool) → (k, r) ≡ distinct d n m x → said k r ≡ exportedDistinct d n m x
 unfolding exportedDistinct

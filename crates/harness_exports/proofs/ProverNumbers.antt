@@ -27,25 +27,13 @@ same-numbers : (a : ProofSearch) (places table : List ℕ) → numbersOf a ≡ i
 same-numbers (answer.Found R S count) places table = refl
 same-numbers (answer.NotFoundInBounds count) places table = refl
 same-numbers (answer.NotFound count) places table = refl
-same-numbers answer.SetSizeRefused places table = refl
-same-numbers answer.LimitRefused places table = refl
-same-numbers answer.ProbabilityRefused places table = refl
-same-numbers answer.Malformed places table = refl
-same-numbers answer.TooLarge places table = refl
-same-numbers answer.WorkspaceShort places table = refl
-same-numbers answer.NotEnoughElements places table = refl
+same-numbers (answer.Refused k) places table = refl
 
 same-places : (a : ProofSearch) (places table : List ℕ) → (places ≡ provedBy a places table .places) × (table ≡ provedBy a places table .table)
 same-places (answer.Found R S count) places table = (refl, refl)
 same-places (answer.NotFoundInBounds count) places table = (refl, refl)
 same-places (answer.NotFound count) places table = (refl, refl)
-same-places answer.SetSizeRefused places table = (refl, refl)
-same-places answer.LimitRefused places table = (refl, refl)
-same-places answer.ProbabilityRefused places table = (refl, refl)
-same-places answer.Malformed places table = (refl, refl)
-same-places answer.TooLarge places table = (refl, refl)
-same-places answer.WorkspaceShort places table = (refl, refl)
-same-places answer.NotEnoughElements places table = (refl, refl)
+same-places (answer.Refused k) places table = (refl, refl)
 
 pub exported-so : (p : Params) (bytes ends marks indexes places bins out : List ℕ) (a : ProofSearch) (n : Numbers) (places′ bins′ out′ : List ℕ)
     → provedBy a places′ bins′ ≡ proved p bytes ends marks indexes places bins

@@ -12,6 +12,7 @@ use centralized_telescope::Params;
 use centralized_telescope::ProofSearch;
 use centralized_telescope::SmallCase;
 use centralized_telescope::SmallSettings;
+use centralized_telescope::refusal_number;
 
 // SHA-256 of four strings joined into 32 lent bytes: 0 with the digest, 9 with zeros, or 8 with nothing written where `out`
 // isn't 32 bytes.
@@ -55,8 +56,7 @@ pub extern "C" fn alba_small_case(u: u64, c: f64, out: &mut [u64]) -> u32
             put_settings(s, out);
             0
         }
-        SmallCase::ProofSizeRefused => 30,
-        SmallCase::CompletenessRefused => 31,
+        SmallCase::Refused(k) => refusal_number(k),
     }
 }
 
@@ -74,8 +74,7 @@ pub extern "C" fn alba_check_distinct(
     match answer {
         Distinctness::Distinct => 0,
         Distinctness::Repeated => 1,
-        Distinctness::Malformed => 4,
-        Distinctness::TooLarge => 5,
+        Distinctness::Refused(k) => refusal_number(k),
     }
 }
 
@@ -110,13 +109,7 @@ fn numbers_of(answer: ProofSearch) -> Numbers
         },
         ProofSearch::NotFoundInBounds(count) => without_proof(11, count),
         ProofSearch::NotFound(count) => without_proof(12, count),
-        ProofSearch::SetSizeRefused => without_proof(1, 0),
-        ProofSearch::LimitRefused => without_proof(2, 0),
-        ProofSearch::ProbabilityRefused => without_proof(3, 0),
-        ProofSearch::Malformed => without_proof(4, 0),
-        ProofSearch::TooLarge => without_proof(5, 0),
-        ProofSearch::WorkspaceShort => without_proof(6, 0),
-        ProofSearch::NotEnoughElements => without_proof(10, 0),
+        ProofSearch::Refused(k) => without_proof(refusal_number(k), 0),
     }
 }
 

@@ -9,6 +9,7 @@ use centralized_telescope::RetryCounter;
 use centralized_telescope::SearchCounter;
 use centralized_telescope::Verdict;
 use centralized_telescope::Written;
+use centralized_telescope::refusal_number;
 use text::elements;
 use text::least;
 use text::say::say;
@@ -97,14 +98,10 @@ fn say_dark(number: u64) {
 fn say_verdict(verdict: Verdict) {
     match verdict {
         Verdict::Accepted => say(b"green\n"),
-        Verdict::SetSizeRefused => say_dark(1),
-        Verdict::LimitRefused => say_dark(2),
-        Verdict::ProbabilityRefused => say_dark(3),
-        Verdict::Malformed => say_dark(4),
-        Verdict::TooLarge => say_dark(5),
         Verdict::IncorrectNumberElements => say_dark(20),
         Verdict::InvalidParameters => say_dark(21),
         Verdict::InvalidProof => say_dark(22),
+        Verdict::Refused(k) => say_dark(refusal_number(k) as u64),
     }
 }
 
@@ -134,15 +131,6 @@ fn finish(
     ));
 }
 
-fn say_not_written(written: Written) {
-    match written {
-        Written::List(_) => {}
-        Written::Malformed => say_refused(4),
-        Written::TooLarge => say_refused(5),
-        Written::TooShort => say_refused(42),
-    }
-}
-
 // The elements at the places, as the proof's own list: written and verified.
 pub fn write_and_verify(
     p: Params,
@@ -169,9 +157,12 @@ pub fn write_and_verify(
         &mut own_marks,
         &mut own_indexes,
     );
-    let Written::List(bytes) = written else {
-        say_not_written(written);
-        return;
+    let bytes = match written {
+        Written::List(bytes) => bytes,
+        Written::Refused(k) => {
+            say_refused(k);
+            return;
+        }
     };
     finish(
         p,

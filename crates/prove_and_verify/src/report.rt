@@ -1,4 +1,6 @@
 // What the program says.
+use centralized_telescope::Refusal;
+use centralized_telescope::refusal_number;
 use text::say::say;
 use text::say::say_number;
 
@@ -8,7 +10,7 @@ pub fn say_figure(name: &[u8], n: u64) {
     say_number(n);
 }
 
-// What a number of the specification's table means, or 42, which `write_proof` gives.
+// What a number of the specification's table means, whichever call gives it: the one list of words.
 fn say_meaning(number: u64) {
     match number {
         1 => say(b"the set size is not 1 to 32768"),
@@ -41,8 +43,8 @@ pub fn say_outcome(kind: &[u8], number: u64) {
     say(b"\n");
 }
 
-pub fn say_refused(number: u64) {
-    say_outcome(b"refused", number);
+pub fn say_refused(k: Refusal) {
+    say_outcome(b"refused", refusal_number(k) as u64);
 }
 
 // A sentence about a file.

@@ -70,13 +70,7 @@ fn search(p: Params, proof: &[u8], data: &[u8], ends: &[u32], marks: &[u8], inde
         }
         ProofSearch::NotFoundInBounds(count) => say_not_found(11, count),
         ProofSearch::NotFound(count) => say_not_found(12, count),
-        ProofSearch::SetSizeRefused => say_refused(1),
-        ProofSearch::LimitRefused => say_refused(2),
-        ProofSearch::ProbabilityRefused => say_refused(3),
-        ProofSearch::Malformed => say_refused(4),
-        ProofSearch::TooLarge => say_refused(5),
-        ProofSearch::WorkspaceShort => say_refused(6),
-        ProofSearch::NotEnoughElements => say_refused(10),
+        ProofSearch::Refused(k) => say_refused(k),
     }
 }
 

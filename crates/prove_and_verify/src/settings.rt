@@ -3,6 +3,7 @@ use crate::args;
 use crate::report::say_figure;
 use crate::report::say_refused;
 use centralized_telescope::Params;
+use centralized_telescope::Refusal;
 use centralized_telescope::SmallCase;
 use centralized_telescope::SmallSettings;
 use libc::STDOUT_FILENO;
@@ -46,13 +47,12 @@ fn small_case() -> Asked {
     let answer = centralized_telescope::param_small_case(u.value, c.value);
     match answer {
         SmallCase::Settings(s) => Asked::Settings(with_set_size(set_size.value, s)),
-        SmallCase::ProofSizeRefused => refused(30),
-        SmallCase::CompletenessRefused => refused(31),
+        SmallCase::Refused(k) => refused(k),
     }
 }
 
-fn refused(number: u64) -> Asked {
-    say_refused(number);
+fn refused(k: Refusal) -> Asked {
+    say_refused(k);
     Asked::Refused
 }
 

@@ -7,10 +7,10 @@ use native.Mathlib.Numerals.{add-one}
 use native.Mathlib.Omega.{arith}
 use lib.ListN.{length, take, drop, replicate, take-append-drop}
 use Rattle.sampling.specs.BigEndian.{bytesOf}
-use Rattle.sampling.specs.CommonLaws.{all-behind}
+use Rattle.sampling.specs.laws.CommonLaws.{all-behind}
 use Rattle.sampling.specs.Fips180.{zeros, padding, digestOf}
 use Rattle.sampling.specs.Hasher.{absorbBytes, finished}
-use Rattle.sampling.specs.HasherLaws.{absorbBytes-append, absorbBytes-len, finished-within}
+use Rattle.sampling.specs.laws.HasherLaws.{absorbBytes-append, absorbBytes-len, finished-within}
 use Rattle.sampling.specs.declared.sha256.Hasher.{Hasher}
 
 pub len-after : (h r : Hasher) (s : List ℕ) → r ≡ absorbBytes h s → r .len ≡ h .len + length s

@@ -4,7 +4,7 @@ use mathlib.Core.List.{List}
 use Prim.Native.Nat.{ℕ, _+_, _*_, _<_}
 use native.Mathlib.Numerals.{add-one}
 use lib.ListN.{length, take, set}
-use Rattle.sampling.specs.CommonLaws.{filled-more}
+use Rattle.sampling.specs.laws.CommonLaws.{filled-more}
 use Rattle.sampling.specs.Fips180.{word, words}
 
 -- one word more

@@ -11,7 +11,7 @@ use lib.Dec.{eqb, leb}
 use lib.Pow.{pow-mono, pow-lt, pow-pos}
 use lib.Count.{leadingZeros, leading-top}
 use Rattle.sampling.specs.Sample.{isPower}
-use Rattle.sampling.specs.SampleLaws.{power-is, power-of}
+use Rattle.sampling.specs.laws.SampleLaws.{power-is, power-of}
 
 -- ---- the remainder
 

@@ -7,7 +7,7 @@ use native.Mathlib.Omega.{arith}
 use lib.ListN.{length, getD, take, drop}
 use lib.Seq.{getD-take, getD-drop}
 use Rattle.sampling.specs.Fips180.{K, W, round, rounds}
-use Rattle.sampling.specs.HashInner.{Window, roundsOver}
+use Rattle.sampling.specs.inner.HashInner.{Window, roundsOver}
 use Rattle.sampling.specs.declared.sha256.State.{State}
 
 -- rounds of a schedule are rounds over all the constants

@@ -9,7 +9,7 @@ use borrow.Author.Tests.{lt-ltb, le-ltb}
 use lib.ListN.{length, getD, take, set, length-append, length-set}
 use lib.Seq.{getD-take, take-all, take-append-le, getD-at, getD-set-same, getD-set-other}
 use Rattle.sampling.specs.Fips180.{_⊞_, σ₀, σ₁, W, nextW}
-use Rattle.sampling.specs.HashInner.{Window, wordAfter}
+use Rattle.sampling.specs.inner.HashInner.{Window, wordAfter}
 
 length-W : (M : List ℕ) (n : ℕ) → length (W M n) ≡ n
 unfolding W

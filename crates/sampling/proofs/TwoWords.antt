@@ -5,7 +5,7 @@ use Prim.Native.Nat.{ℕ, _+_, _*_, _^_, _<_}
 use native.Mathlib.Omega.{arith}
 use lib.ListN.{getD}
 use lib.Dec.{ltb}
-use Rattle.sampling.specs.CommonLaws.{same-test}
+use Rattle.sampling.specs.laws.CommonLaws.{same-test}
 use Rattle.sampling.specs.BigEndian.{bigEndian}
 
 -- ---- 16 bytes: 8 more bytes after those of the high word make the low one

@@ -7,9 +7,9 @@ use native.Mathlib.Numerals.{add-one}
 use native.Mathlib.Omega.{arith}
 use lib.ListN.{length, take, drop, getD, set, length-take, length-drop, length-append, drop-of-length-le}
 use lib.Seq.{take-length, drop-length, drop-drop, set-split, drop-at, take-at, length-take-le, sets, sets-eq}
-use Rattle.sampling.specs.CommonLaws.{all-behind}
+use Rattle.sampling.specs.laws.CommonLaws.{all-behind}
 use Rattle.sampling.specs.BigEndian.{bytesOf}
-use Rattle.sampling.specs.BigEndianLaws.{length-bytesOf}
+use Rattle.sampling.specs.laws.BigEndianLaws.{length-bytesOf}
 use Rattle.sampling.specs.Fips180.{joined}
 
 -- ---- a number

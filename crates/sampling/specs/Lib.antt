@@ -1,14 +1,10 @@
--- The definitions that the contracts of `sampling` cite, and laws about them.
-pub mod CommonLaws
+-- What the contracts of `sampling` cite, in reading order. What follows from it stands in laws/, what inner functions promise each other in
+-- inner/: neither has to be believed.
 pub mod BigEndian
-pub mod BigEndianLaws
 pub mod Fips180
 pub mod Hash
-pub mod HashLaws
-pub mod FipsExamples
-pub mod HashInner
 pub mod Hasher
-pub mod HasherLaws
 pub mod Sample
-pub mod SampleLaws
 pub mod Exports
+pub mod laws
+pub mod inner

@@ -6,7 +6,7 @@ ghost use lib.ListN.{length, getD};
 ghost use lib.Seq.{sets};
 ghost use Rattle.sampling.specs.Fips180.{_⊞_, Ch, Maj, Σ₀, Σ₁, σ₀, σ₁, W, round, rounds, plus, compressed, word, block, zeros, digestOf};
 ghost use Rattle.sampling.specs.Hash.{hashed, hashedNumber};
-ghost use Rattle.sampling.specs.HashInner.{Window, wordAfter, roundsOver};
+ghost use Rattle.sampling.specs.inner.HashInner.{Window, wordAfter, roundsOver};
 ghost use Rattle.sampling.specs.Hasher.{newHasher, absorbBytes, tooLong, absorbed, finished};
 use crate::big_endian;
 

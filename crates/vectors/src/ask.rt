@@ -5,6 +5,7 @@ use crate::said;
 use crate::said::Said;
 use centralized_telescope::SmallCase;
 use centralized_telescope::SmallSettings;
+use centralized_telescope::refusal_number;
 use sampling::Chance;
 use sampling::Draw;
 use text::double;
@@ -104,7 +105,6 @@ pub fn small(question: &[u8], out: &mut [u8]) -> Said
     let answer = centralized_telescope::param_small_case(u.value, c.value);
     match answer {
         SmallCase::Settings(s) => said_settings(s, out),
-        SmallCase::ProofSizeRefused => said::one(out, 30),
-        SmallCase::CompletenessRefused => said::one(out, 31),
+        SmallCase::Refused(k) => said::one(out, refusal_number(k) as u64),
     }
 }

@@ -10,6 +10,7 @@ use centralized_telescope::ProofSearch;
 use centralized_telescope::RetryCounter;
 use centralized_telescope::SearchCounter;
 use centralized_telescope::Verdict;
+use centralized_telescope::refusal_number;
 use text::words;
 
 // Stands in each place before a search: no list has so many elements.
@@ -39,8 +40,7 @@ pub fn distinct(
     match answer {
         Distinctness::Distinct => said::one(out, 1),
         Distinctness::Repeated => said::one(out, 0),
-        Distinctness::Malformed => said::one(out, 4),
-        Distinctness::TooLarge => said::one(out, 5),
+        Distinctness::Refused(k) => said::one(out, refusal_number(k) as u64),
     }
 }
 
@@ -94,15 +94,9 @@ fn with_places(places: &[u32], found: usize, at: usize, out: &mut [u8]) -> Said
 fn search_number(answer: ProofSearch) -> u64 {
     match answer {
         ProofSearch::Found(_, _, _) => 0,
-        ProofSearch::SetSizeRefused => 1,
-        ProofSearch::LimitRefused => 2,
-        ProofSearch::ProbabilityRefused => 3,
-        ProofSearch::Malformed => 4,
-        ProofSearch::TooLarge => 5,
-        ProofSearch::WorkspaceShort => 6,
-        ProofSearch::NotEnoughElements => 10,
         ProofSearch::NotFoundInBounds(_) => 11,
         ProofSearch::NotFound(_) => 12,
+        ProofSearch::Refused(k) => refusal_number(k) as u64,
     }
 }
 
@@ -171,14 +165,10 @@ pub fn prove(
 fn verdict_number(verdict: Verdict) -> u64 {
     match verdict {
         Verdict::Accepted => 0,
-        Verdict::SetSizeRefused => 1,
-        Verdict::LimitRefused => 2,
-        Verdict::ProbabilityRefused => 3,
-        Verdict::Malformed => 4,
-        Verdict::TooLarge => 5,
         Verdict::IncorrectNumberElements => 20,
         Verdict::InvalidParameters => 21,
         Verdict::InvalidProof => 22,
+        Verdict::Refused(k) => refusal_number(k) as u64,
     }
 }
 

@@ -63,3 +63,27 @@ unsafe impl<T> Place<T> for Fenced<T> {
         }
     }
 }
+
+#[cfg(test)]
+mod tests {
+    use super::*;
+
+    /// A write before the place, behind it, or into it past what is due is seen, and so is one that is missing.
+    #[test]
+    fn a_write_beside_the_place_is_seen() {
+        for at in -1..=4 {
+            let mut place = Fenced::new(&mut Rng::new(1, 0), 4, |word| word as u8);
+            assert!(place.holds(&[]));
+            let (start, len) = Place::parts(&mut place);
+            assert_eq!(len, 4);
+            // SAFETY: there are `BESIDE` bytes of the buffer before the place and behind it.
+            let written = unsafe {
+                let byte = start.offset(at);
+                *byte = !*byte;
+                *byte
+            };
+            assert!(!place.holds(&[]));
+            assert_eq!(place.holds(&[written]), at == 0);
+        }
+    }
+}

@@ -1,8 +1,10 @@
 -- `alba_check_distinct`: the number of each answer.
 use mathlib.Core.Path.{sym, ap, _∙_}
 use mathlib.Core.Bool.{true, false}
+use Rattle.centralized_telescope.specs.Refusals.{refusalNumber}
+use Rattle.centralized_telescope.specs.laws.RefusalsLaws.{refusal-number}
 use Rattle.centralized_telescope.specs.Distinct.{distinctNumber}
-use Rattle.harness_exports.proofs.Answer.{told}
+use Rattle.harness_exports.proofs.Answer.{told, not-said}
 use borrow.Author.Needs.{needs}
 use Rattle.harness_exports.proofs.alba_check_distinct.Statement.{statement}
 use Rattle.harness_exports.proofs.alba_check_distinct.Tie as tie
@@ -16,11 +18,11 @@ enum-told c = search needs
 enum-told-2 : tie.Need-enum-told-2
 enum-told-2 c = search needs
 
-enum-told-3 : tie.Need-enum-told-3
-enum-told-3 c = search needs
+enum-known-answer : tie.Need-enum-known-answer
+enum-known-answer c = search needs
 
-enum-told-4 : tie.Need-enum-told-4
-enum-told-4 c = search needs
+refusal-number-requires : tie.Need-refusal-number-requires
+refusal-number-requires c κs = search needs
 
 returns : tie.Need-returns
 returns c =
@@ -34,13 +36,11 @@ returns-2 c =
 
 returns-3 : tie.Need-returns-3
 returns-3 c =
-    let z = c .before .before .before .before .before .before .before .args in
-    told (z .«data» .now) (z .ends .now) (z .marks .now) (z .indexes .now) 4 false (sym (ap distinctNumber (c .enum-told3 .given .1)) ∙ c .before .before .check-distinct .ensures)
-
-returns-4 : tie.Need-returns-4
-returns-4 c =
-    let z = c .before .before .before .before .before .before .before .args in
-    told (z .«data» .now) (z .ends .now) (z .marks .now) (z .indexes .now) 5 false (sym (ap distinctNumber (c .enum-told4 .given .1)) ∙ c .before .before .check-distinct .ensures)
+    let s = c .before .before in
+    let z = s .before .before .before .before .before .before .before .args in
+    let k = s .answer .given .0 .0 in
+    c .refusal-number .ensures ∙ not-said (refusalNumber k) false (refusal-number k)
+    ∙ told (z .«data» .now) (z .ends .now) (z .marks .now) (z .indexes .now) (refusalNumber k) false (sym (ap distinctNumber (s .answer .given .1)) ∙ s .before .before .check-distinct .ensures)
 
 pub alba-check-distinct-spec : {M : Type 1} → statement M
 alba-check-distinct-spec =
@@ -49,9 +49,8 @@ alba-check-distinct-spec =
     check-distinct-requires
     enum-told
     enum-told-2
-    enum-told-3
-    enum-told-4
+    enum-known-answer
+    refusal-number-requires
     returns
     returns-2
-    returns-3
-    returns-4)
+    returns-3)

@@ -1,12 +1,14 @@
 -- `alba_small_case`: refused by the length lent, or by the answer of `param_small_case`.
-use mathlib.Core.Path.{refl, sym, ap, _∙_}
+use mathlib.Core.Path.{sym, ap, _∙_}
 use mathlib.Core.List.{List}
 use Prim.Native.Nat.{ℕ}
-use borrow.Author.Needs.{needs}
-use Rattle.sampling.specs.SampleLaws.{inside-no-nan}
+use Rattle.sampling.specs.laws.SampleLaws.{inside-no-nan}
+use Rattle.centralized_telescope.specs.Refusals.{refusalNumber}
+use Rattle.centralized_telescope.specs.laws.RefusalsLaws.{refusal-number}
 use Rattle.centralized_telescope.specs.Params.{smallCaseNumber, zeros}
-use Rattle.centralized_telescope.specs.SmallCaseLaws.{given-unit}
-use Rattle.harness_exports.proofs.Answer.{not-five, answered}
+use Rattle.centralized_telescope.specs.laws.SmallCaseLaws.{given-unit}
+use Rattle.harness_exports.proofs.Answer.{not-five, answered, not-settled}
+use borrow.Author.Needs.{needs}
 use Rattle.harness_exports.proofs.alba_small_case.Statement.{statement}
 use Rattle.harness_exports.proofs.alba_small_case.Tie as tie
 
@@ -28,11 +30,11 @@ put-settings-requires c κs =
     let e = sym (ap smallCaseNumber (a .1)) ∙ c .before .before .before .before .param-small-case .ensures in
     (search needs, inside-no-nan (a .0 .0 .q) (given-unit (z .u) (z .c) (a .0 .0) e))
 
-enum-told : tie.Need-enum-told
-enum-told c = search needs
+enum-known-answer-2 : tie.Need-enum-known-answer-2
+enum-known-answer-2 c = search needs
 
-enum-told-2 : tie.Need-enum-told-2
-enum-told-2 c = search needs
+refusal-number-requires : tie.Need-refusal-number-requires
+refusal-number-requires c κs = search needs
 
 same-length : tie.Need-same-length
 same-length c = search needs
@@ -46,13 +48,11 @@ returns-2 c =
 
 returns-3 : tie.Need-returns-3
 returns-3 c =
-    let z = c .before .before .before .before .before .args in
-    answered (z .u) (z .c) (z .out .now) 30 zeros _ (search needs) (sym (ap smallCaseNumber (c .enum-told .given .1)) ∙ c .before .before .param-small-case .ensures) refl
-
-returns-4 : tie.Need-returns-4
-returns-4 c =
-    let z = c .before .before .before .before .before .args in
-    answered (z .u) (z .c) (z .out .now) 31 zeros _ (search needs) (sym (ap smallCaseNumber (c .enum-told2 .given .1)) ∙ c .before .before .param-small-case .ensures) refl
+    let z = c .before .before .before .before .before .before .before .args in
+    let a = c .before .before .answer2 .given in
+    let k = a .0 .0 in
+    answered (z .u) (z .c) (z .out .now) (refusalNumber k) zeros _ (search needs) (sym (ap smallCaseNumber (a .1)) ∙ c .before .before .before .before .param-small-case .ensures)
+    (ap (λ (n : ℕ). (n, z .out .now)) (c .refusal-number .ensures) ∙ not-settled (refusalNumber k) zeros (z .out .now) (refusal-number k))
 
 pub alba-small-case-spec : {M : Type 1} → statement M
 alba-small-case-spec =
@@ -62,9 +62,8 @@ alba-small-case-spec =
     param-small-case-requires
     enum-known-answer
     put-settings-requires
-    enum-told
-    enum-told-2
+    enum-known-answer-2
+    refusal-number-requires
     same-length
     returns-2
-    returns-3
-    returns-4)
+    returns-3)

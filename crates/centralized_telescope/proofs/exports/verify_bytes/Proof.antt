@@ -1,21 +1,20 @@
 -- `verify_bytes`: the settings, the counts of bytes, the list, the room, then the judgement.
 use mathlib.Core.Path.{_≡_, sym, ap, _∙_}
-use Prim.Native.Nat.{ℕ}
 use Rattle.sampling.specs.Sample.{valueOf}
 use Rattle.centralized_telescope.specs.Elements.{elements, listCheck, listNumber}
 use Rattle.centralized_telescope.specs.Params.{checked, checkedNumber}
-use Rattle.centralized_telescope.specs.ParamsLaws.{number-alone}
+use Rattle.centralized_telescope.specs.laws.ParamsLaws.{number-alone}
 use Rattle.centralized_telescope.specs.Verifier.{judged, verdict}
 use Rattle.centralized_telescope.specs.Exports.{numbersOf, exportedVerdict}
-use Rattle.centralized_telescope.proofs.VerdictAnswers.{settings-number, list-number, threshold-passed, list-refused, left-to-judge}
+use Rattle.centralized_telescope.proofs.VerdictAnswers.{threshold-passed, list-refused, left-to-judge}
 use Rattle.centralized_telescope.proofs.ExportAnswers.{bytes-settings-refused, ends-not-whole, indexes-not-whole, whole-counts, over-room}
 use borrow.Author.Needs.{needs}
 use Rattle.centralized_telescope.proofs.exports.verify_bytes.Statement.{statement}
 use Rattle.centralized_telescope.proofs.exports.verify_bytes.Tie as tie
 
 -- the settings pass, with X
-lawful-settings : (s : tie.After-settings) → checked (s .before .before .before .before .before .before .before .args .p) ≡ (0, valueOf (s .settings .given .0 .0))
-lawful-settings s = sym (s .before .before .check-params .ensures) ∙ ap checkedNumber (s .settings .given .1)
+lawful-settings : (s : tie.After-x) → checked (s .before .before .before .before .before .before .before .args .p) ≡ (0, valueOf (s .x .given .0 .0))
+lawful-settings s = sym (s .before .before .check-params .ensures) ∙ ap checkedNumber (s .x .given .1)
 
 -- both counts are whole: the exported verdict is the verdict on the numbers
 as-exported : (s : tie.Else2)
@@ -46,30 +45,29 @@ judged-so s =
 check-params-requires : tie.Need-check-params-requires
 check-params-requires c κs = search needs
 
-enum-known-settings : tie.Need-enum-known-settings
-enum-known-settings c = search needs
+enum-known-x : tie.Need-enum-known-x
+enum-known-x c = search needs
 
-settings-verdict-requires : tie.Need-settings-verdict-requires
-settings-verdict-requires c κs = search needs
+enum-known-k : tie.Need-enum-known-k
+enum-known-k c = search needs
 
 returns : tie.Need-returns
 returns c =
-    let s = c .before .before .check-params in
-    let a = c .before .before .before .before .before .before .before .args in
-    bytes-settings-refused (a .p) (a .retry .0) (a .search .0) (a .«data» .now) (a .ends .now) (a .marks .now) (a .indexes .now) _
-    (c .settings-verdict .ensures ∙ ap (λ (k : ℕ × ℕ). k .0) (s .ensures))
-    (λ e. settings-number (s .result) (c .before .match .keys2) (sym (c .settings-verdict .ensures) ∙ e))
+    let s = c .before in
+    let a = s .before .before .before .before .before .before .before .args in
+    bytes-settings-refused (a .p) (a .retry .0) (a .search .0) (a .«data» .now) (a .ends .now) (a .marks .now) (a .indexes .now) (s .k .given .0 .0) (sym (s .before .before .check-params .ensures) ∙ ap checkedNumber (s .k .given .1))
 
 returns-2 : tie.Need-returns-2
 returns-2 c =
-    let a = c .before .before .before .before .before .before .before .before .before .args in
-    ends-not-whole (a .p) (a .retry .0) (a .search .0) (a .«data» .now) (a .ends .now) (a .marks .now) (a .indexes .now) (number-alone (lawful-settings (c .before .before))) (c .if1 .taken)
+    let s = c .before .before in
+    let a = s .before .before .before .before .before .before .before .args in
+    ends-not-whole (a .p) (a .retry .0) (a .search .0) (a .«data» .now) (a .ends .now) (a .marks .now) (a .indexes .now) (number-alone (lawful-settings s)) (c .if1 .taken)
 
 returns-3 : tie.Need-returns-3
 returns-3 c =
-    let a = c .before .before .before .before .before .before .before .before .before .before .args in
-    indexes-not-whole (a .p) (a .retry .0) (a .search .0) (a .«data» .now) (a .ends .now) (a .marks .now) (a .indexes .now)
-    (number-alone (lawful-settings (c .before .before .before))) (c .before .if1 .left) (c .if2 .taken)
+    let s = c .before .before .before in
+    let a = s .before .before .before .before .before .before .before .args in
+    indexes-not-whole (a .p) (a .retry .0) (a .search .0) (a .«data» .now) (a .ends .now) (a .marks .now) (a .indexes .now) (number-alone (lawful-settings s)) (c .before .if1 .left) (c .if2 .taken)
 
 check-bytes-requires : tie.Need-check-bytes-requires
 check-bytes-requires c κs = search needs
@@ -77,17 +75,16 @@ check-bytes-requires c κs = search needs
 enum-told : tie.Need-enum-told
 enum-told c = search needs
 
-list-verdict-requires : tie.Need-list-verdict-requires
-list-verdict-requires c κs = search needs
+enum-known-k-2 : tie.Need-enum-known-k-2
+enum-known-k-2 c = search needs
 
 returns-4 : tie.Need-returns-4
 returns-4 c =
-    let l = c .before .before .check-bytes in
-    let a = c .before .before .before .before .before .before .before .before .before .before .before .before .before .args in
-    list-refused (a .p) (a .retry .0) (a .search .0) (a .«data» .now) (numbersOf 4 (a .ends .now)) (a .marks .now) (numbersOf 8 (a .indexes .now))
-    (number-alone (lawful-settings (c .before .before .before .before .before .before))) _ (c .list-verdict .ensures ∙ l .ensures)
-    (λ e. list-number (l .result) (c .before .match2 .keys2) (sym (c .list-verdict .ensures) ∙ e))
-    ∙ as-exported (c .before .before .before)
+    let s = c .before in
+    let a = s .before .before .before .before .before .before .before .before .before .before .before .before .before .args in
+    list-refused (a .p) (a .retry .0) (a .search .0) (a .«data» .now) (numbersOf 4 (a .ends .now)) (a .marks .now) (numbersOf 8 (a .indexes .now)) (number-alone (lawful-settings (s .before .before .before .before .before .before)))
+    (s .k2 .given .0 .0) (sym (s .before .before .check-bytes .ensures) ∙ ap listNumber (s .k2 .given .1))
+    ∙ as-exported (s .before .before .before)
 
 returns-5 : tie.Need-returns-5
 returns-5 c =
@@ -99,12 +96,9 @@ returns-5 c =
 
 judge-bytes-requires : tie.Need-judge-bytes-requires
 judge-bytes-requires c κs =
-    let s = c .before in (
-      threshold-passed (s .before .before .before .before .before .before .before .before .before .before .before .before .before .args .p)
-          (valueOf (s .before .before .before .before .before .before .settings .given .0 .0)) (lawful-settings (s .before .before .before .before .before .before)),
-      accepted s,
-      c .if3 .left,
-    )
+    let s = c .before in
+    let o = s .before .before .before .before .before .before in
+    (threshold-passed (o .before .before .before .before .before .before .before .args .p) (valueOf (o .x .given .0 .0)) (lawful-settings o), accepted s, c .if3 .left)
 
 returns-6 : tie.Need-returns-6
 returns-6 c = c .judge-bytes .ensures ∙ judged-so (c .before .before)
@@ -114,14 +108,14 @@ verify-bytes-spec =
     tie.close
     (tie.spec
     check-params-requires
-    enum-known-settings
-    settings-verdict-requires
+    enum-known-x
+    enum-known-k
     returns
     returns-2
     returns-3
     check-bytes-requires
     enum-told
-    list-verdict-requires
+    enum-known-k-2
     returns-4
     returns-5
     judge-bytes-requires

@@ -3,7 +3,7 @@ use mathlib.Core.Bool.{true, false}
 use Prim.Native.Nat.{_^_, _≤_}
 use native.Mathlib.Omega.{arith}
 use borrow.Author.Needs.{needs}
-use Rattle.centralized_telescope.specs.SmallCaseLaws.{inside, floor-most}
+use Rattle.centralized_telescope.specs.laws.SmallCaseLaws.{inside, floor-most}
 use Rattle.centralized_telescope.proofs.Whole.{counted, ceiling}
 use Rattle.centralized_telescope.proofs.params.ceil_of.Statement.{statement}
 use Rattle.centralized_telescope.proofs.params.ceil_of.Tie as tie

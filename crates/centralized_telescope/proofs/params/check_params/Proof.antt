@@ -4,7 +4,7 @@ use Prim.Native.Nat.{ℕ}
 use borrow.Author.Needs.{needs}
 use Rattle.sampling.specs.Sample.{thresholdNumber}
 use Rattle.centralized_telescope.specs.Params.{checked}
-use Rattle.centralized_telescope.specs.ParamsLaws.{set-size-refused, limit-refused, left-to-q}
+use Rattle.centralized_telescope.specs.laws.ParamsLaws.{set-size-refused, limit-refused, left-to-q}
 use Rattle.centralized_telescope.proofs.params.check_params.Statement.{statement}
 use Rattle.centralized_telescope.proofs.params.check_params.Tie as tie
 

@@ -1,7 +1,7 @@
 -- `floor_of`: the truncation of a double that is not below 0.
 use mathlib.Core.Path.{_∙_}
 use Prim.Native.Nat.{_^_}
-use Rattle.centralized_telescope.specs.SmallCaseLaws.{inside}
+use Rattle.centralized_telescope.specs.laws.SmallCaseLaws.{inside}
 use Rattle.centralized_telescope.proofs.Whole.{above-minus-one, below-2-to-64, truncated}
 use Rattle.centralized_telescope.proofs.params.floor_of.Statement.{statement}
 use Rattle.centralized_telescope.proofs.params.floor_of.Tie as tie

@@ -3,7 +3,7 @@ use mathlib.Core.Path.{_≡_, refl}
 use mathlib.Core.Bool.{true, false}
 use lib.IntN.{pos}
 use lib.Ieee.{fin, binary64, ofBits}
-use Rattle.sampling.specs.SampleLaws.{nan-outside, by-bounds}
+use Rattle.sampling.specs.laws.SampleLaws.{nan-outside, by-bounds}
 use Rattle.centralized_telescope.proofs.params.is_completeness_out.Statement.{statement}
 use Rattle.centralized_telescope.proofs.params.is_completeness_out.Tie as tie
 

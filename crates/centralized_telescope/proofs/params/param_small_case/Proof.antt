@@ -2,7 +2,7 @@
 use mathlib.Core.Path.{sym, ap, _∙_}
 use borrow.Author.Needs.{needs}
 use Rattle.centralized_telescope.specs.declared.params.SmallSettings.{SmallSettings}
-use Rattle.centralized_telescope.specs.SmallCaseLaws.{proof-size-refused, completeness-refused, settings-given}
+use Rattle.centralized_telescope.specs.laws.SmallCaseLaws.{proof-size-refused, completeness-refused, settings-given}
 use Rattle.centralized_telescope.proofs.params.param_small_case.Statement.{statement}
 use Rattle.centralized_telescope.proofs.params.param_small_case.Tie as tie
 

@@ -4,8 +4,8 @@ use Prim.Native.Nat.{_-_, _^_}
 use native.Mathlib.Omega.{arith}
 use lib.Dec.{lit≤}
 use Rattle.centralized_telescope.specs.Params.{beforeCeil, beforeFloor, searchWidth}
-use Rattle.centralized_telescope.specs.ParamsLaws.{one-to}
-use Rattle.centralized_telescope.specs.SmallCaseLaws.{wider, in-range, width-most}
+use Rattle.centralized_telescope.specs.laws.ParamsLaws.{one-to}
+use Rattle.centralized_telescope.specs.laws.SmallCaseLaws.{wider, in-range, width-most}
 use Rattle.centralized_telescope.proofs.Whole.{counted}
 use Rattle.centralized_telescope.proofs.Figures.{before-ceil-is, before-floor-is, width-is, settings-are}
 use Rattle.centralized_telescope.proofs.params.small_settings.Statement.{statement}

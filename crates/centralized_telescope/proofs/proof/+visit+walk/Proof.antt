@@ -10,9 +10,9 @@ use lib.ListN.{length, take, getD, length-set}
 use lib.Seq.{slice, length-take-le, take-set-le}
 use Rattle.centralized_telescope.specs.Chains.{Try}
 use Rattle.sampling.specs.Sample.{valueOf}
-use Rattle.centralized_telescope.specs.Rounds.{idOption}
-use Rattle.centralized_telescope.specs.TryLaws.{id-below}
-use Rattle.centralized_telescope.specs.Visit.{tryOn, walked, outcomeOf, Ready}
+use Rattle.centralized_telescope.specs.inner.RoundAnswers.{idOption}
+use Rattle.centralized_telescope.specs.laws.TryLaws.{id-below}
+use Rattle.centralized_telescope.specs.inner.Visit.{tryOn, walked, outcomeOf, Ready}
 use Rattle.centralized_telescope.proofs.Measure.{left, to-walk, to-visit}
 use Rattle.centralized_telescope.proofs.TableFacts.{set-size-most, proof-size-most, bound-most, yes-is, table-all, table-most, entry-there, bin-span, bin-read, bin-short}
 use Rattle.centralized_telescope.proofs.Walked.{visited-walk, visited-pass, visited-fail, stopped, by-walk, by-leaf}
@@ -28,8 +28,8 @@ use Rattle.centralized_telescope.proofs.proof.+visit+walk.Lts-walk as w
 use Rattle.centralized_telescope.proofs.proof.write_places.Reads as write-places-reads
 use Rattle.centralized_telescope.proofs.round.next_hash.Reads as next-hash-reads
 use Rattle.centralized_telescope.proofs.round.round_id.Reads as round-id-reads
-use Rattle.centralized_telescope.proofs.round.says_yes.Reads as says-yes-reads
-use Rattle.centralized_telescope.proofs.types.wide.Reads as wide-reads
+use Rattle.centralized_telescope.proofs.round.proof_hash.Reads as proof-hash-reads
+use Rattle.centralized_telescope.proofs.numbers.wide.Reads as wide-reads
 use Rattle.centralized_telescope.proofs.proof.+visit+walk.{statement}
 use Rattle.centralized_telescope.proofs.proof.+visit+walk.Tie.{close}
 
@@ -57,7 +57,7 @@ walk-below t = and 6 walk-kinds.ps (falls 6 walk-kinds.ps _<_ μ-walk t) walk.Pr
 
 -- what the calls of each promise
 abbrev visit-claims : ℕ → visit-lts.Claims
-visit-claims t = (wide-reads.Asked, wide-reads.Learnt, walk-below t, walk.Post, says-yes-reads.Asked, says-yes-reads.Learnt)
+visit-claims t = (wide-reads.Asked, wide-reads.Learnt, walk-below t, walk.Post, proof-hash-reads.Asked, proof-hash-reads.Learnt)
 
 abbrev walk-claims : ℕ → walk-lts.Claims
 walk-claims t = (
@@ -142,8 +142,8 @@ visit-returns t c =
     ∙ ap (λ (es : List ℕ). walked T (a .search .0) (a .h) (take (a .depth) (a .path)) (a .depth) es (a .steps + 1)) (sym bin))
     (c .before .before .walk .ensures)
 
-visit-says-yes-requires : (t : ℕ) → visit-lts.Need-says-yes-requires (visit-claims t) (visit-at t) visit.Post
-visit-says-yes-requires t c κs = search needs
+visit-proof-hash-requires : (t : ℕ) → visit-lts.Need-proof-hash-requires (visit-claims t) (visit-at t) visit.Post
+visit-proof-hash-requires t c κs = search needs
 
 visit-add-t32 : (t : ℕ) → visit-lts.Need-add-t32 (visit-claims t) (visit-at t) visit.Post
 visit-add-t32 t c = let o = c .before .before .before .before .before .before .before .before .before in omega (arith, o .pre .1 .1, bound-most (o .pre .1 .0))
@@ -156,7 +156,7 @@ visit-returns-2 t c =
     let l = c .before .before .if1 .left in
     by-leaf (a .p) (a .depth) _ _ (a .places .now) l
     (visited-pass T (a .search .0) (a .h) (a .id) (take (a .depth) (a .path)) (a .depth) (a .steps) (visit-path t o) (o .pre .1 .1 .2) (omega (arith, o .pre .1 .1))
-    (yes-is (o .pre .1 .0) (a .h) ∙ sym (c .before .says-yes .ensures) ∙ c .if2 .taken))
+    (yes-is (o .pre .1 .0) (a .h) ∙ sym (c .before .proof-hash .ensures) ∙ c .if2 .taken))
 
 visit-add-t33 : (t : ℕ) → visit-lts.Need-add-t33 (visit-claims t) (visit-at t) visit.Post
 visit-add-t33 t c = let o = c .before .before .before .before .before .before .before .before .before in omega (arith, o .pre .1 .1, bound-most (o .pre .1 .0))
@@ -169,7 +169,7 @@ visit-returns-3 t c =
     let l = c .before .before .if1 .left in
     by-leaf (a .p) (a .depth) _ _ (a .places .now) l
     (visited-fail T (a .search .0) (a .h) (a .id) (take (a .depth) (a .path)) (a .depth) (a .steps) (visit-path t o) (o .pre .1 .1 .2) (omega (arith, o .pre .1 .1))
-    (yes-is (o .pre .1 .0) (a .h) ∙ sym (c .before .says-yes .ensures) ∙ c .if2 .left))
+    (yes-is (o .pre .1 .0) (a .h) ∙ sym (c .before .proof-hash .ensures) ∙ c .if2 .left))
 
 abbrev walk-Inv-loop : walk-lts.InvT-loop
 walk-Inv-loop p x retry search «data» ends marks indexes table h depth from to steps places₀ size count₀ i₀ next₀ places count i next =
@@ -403,7 +403,7 @@ pub +visit+walk-spec : {M : Type 1} → statement M
     (visit-walk-requires t)
     (visit-same-length t)
     (visit-returns t)
-    (visit-says-yes-requires t)
+    (visit-proof-hash-requires t)
     (visit-add-t32 t)
     (visit-returns-2 t)
     (visit-add-t33 t)

@@ -9,8 +9,8 @@ use borrow.Author.Needs.{needs}
 use lib.ListN.{length, drop}
 use Rattle.sampling.specs.Sample.{valueOf}
 use Rattle.centralized_telescope.specs.Elements.{Element, elements}
-use Rattle.centralized_telescope.specs.ElementsLaws.{length-elements}
-use Rattle.centralized_telescope.specs.RoundsLaws.{yes-below}
+use Rattle.centralized_telescope.specs.laws.ElementsLaws.{length-elements}
+use Rattle.centralized_telescope.specs.laws.RoundsLaws.{yes-below}
 use Rattle.centralized_telescope.specs.Verifier.{follow, lastHash, yesOn}
 use Rattle.centralized_telescope.proofs.ChainFollowed.{nowhere, somewhere, no-start, from-start, chain-ends, no-bin, other-bin, no-round, next-round}
 use Rattle.centralized_telescope.proofs.proof.chain_passes.Statement.{statement}
@@ -78,8 +78,8 @@ returns c =
 loop-holds : tie.Need-loop-holds Inv-loop μ-loop
 loop-holds c = (search needs, refl)
 
-bin-of-requires : tie.Need-bin-of-requires Inv-loop μ-loop
-bin-of-requires c κs = (entry (c .before) .pre .1, c .loop-test .taken)
+bin-hash-requires : tie.Need-bin-hash-requires Inv-loop μ-loop
+bin-hash-requires c κs = (entry (c .before) .pre .1, c .loop-test .taken)
 
 enum-known-drawn : tie.Need-enum-known-drawn Inv-loop μ-loop
 enum-known-drawn c = search needs
@@ -92,7 +92,7 @@ returns-2 c =
     let t = c .before .before .before in
     let l = t .before in
     let a = entry l .args in
-    refused l (reached l ∙ no-bin (a .p) (a .retry .0) (list l) _ _ _ (within l (t .loop-test .taken)) (nowhere _ _ (c .before .before .bin-of .ensures) (c .enum-told2 .given .1)))
+    refused l (reached l ∙ no-bin (a .p) (a .retry .0) (list l) _ _ _ (within l (t .loop-test .taken)) (nowhere _ _ (c .before .before .bin-hash .ensures) (c .enum-told2 .given .1)))
 
 returns-3 : tie.Need-returns-3 Inv-loop μ-loop
 returns-3 c =
@@ -101,7 +101,7 @@ returns-3 c =
     let t = b .before in
     let l = t .before in
     let a = entry l .args in
-    refused l (reached l ∙ other-bin (a .p) (a .retry .0) (list l) _ _ _ (within l (t .loop-test .taken)) _ (somewhere _ _ _ (b .bin-of .ensures) (d .drawn .given .1)) (c .if1 .taken))
+    refused l (reached l ∙ other-bin (a .p) (a .retry .0) (list l) _ _ _ (within l (t .loop-test .taken)) _ (somewhere _ _ _ (b .bin-hash .ensures) (d .drawn .given .1)) (c .if1 .taken))
 
 next-hash-requires : tie.Need-next-hash-requires Inv-loop μ-loop
 next-hash-requires c κs = (entry (c .before .before .before .before .before .before) .pre .1, c .before .before .before .before .before .loop-test .taken)
@@ -126,7 +126,7 @@ returns-4 c =
     let a = entry l .args in
     refused l
     (reached l
-    ∙ no-round (a .p) (a .retry .0) (list l) _ _ _ (within l (t .loop-test .taken)) _ (somewhere _ _ _ (b .bin-of .ensures) (d .drawn .given .1)) (f .if1 .left) _ (g .next-hash .ensures)
+    ∙ no-round (a .p) (a .retry .0) (list l) _ _ _ (within l (t .loop-test .taken)) _ (somewhere _ _ _ (b .bin-hash .ensures) (d .drawn .given .1)) (f .if1 .left) _ (g .next-hash .ensures)
     (nowhere _ _ (c .before .before .round-id2 .ensures) (c .enum-told3 .given .1)))
 
 add-followed : tie.Need-add-followed Inv-loop μ-loop
@@ -147,19 +147,19 @@ loop-again c =
     let a = entry l .args in (
       omega (arith, t .loop-test .taken),
       l .loop .inv .1
-          ∙ next-round (a .p) (a .retry .0) (list l) _ _ _ (within l (t .loop-test .taken)) _ (somewhere _ _ _ (b .bin-of .ensures) (d .drawn .given .1)) (f .if1 .left) _ (g .next-hash .ensures)
+          ∙ next-round (a .p) (a .retry .0) (list l) _ _ _ (within l (t .loop-test .taken)) _ (somewhere _ _ _ (b .bin-hash .ensures) (d .drawn .given .1)) (f .if1 .left) _ (g .next-hash .ensures)
           _ (somewhere _ _ _ (c .before .before .before .round-id2 .ensures) (c .before .round .given .1)),
     )
 
-says-yes-requires : tie.Need-says-yes-requires Inv-loop μ-loop
-says-yes-requires c κs = search needs
+proof-hash-requires : tie.Need-proof-hash-requires Inv-loop μ-loop
+proof-hash-requires c κs = search needs
 
 returns-5 : tie.Need-returns-5 Inv-loop μ-loop
 returns-5 c =
     let l = c .before .before in
     let a = entry l .args in
     let e : last l ≡ some (l .loop .h) = reached l ∙ chain-ends (a .p) (a .retry .0) (list l) (l .loop .h) (l .loop .id) (l .loop .followed) (omega (arith, c .before .loop-test .left, length-elements (a .«data» .now) (a .ends .now) (a .marks .now) (a .indexes .now) (entry l .pre .1))) in
-    c .says-yes .ensures ∙ sym (yes-below (a .p .q) (valueOf (a .x)) (l .loop .h) (entry l .pre .0)) ∙ ap (yesOn (a .p .q)) (sym e)
+    c .proof-hash .ensures ∙ sym (yes-below (a .p .q) (valueOf (a .x)) (l .loop .h) (entry l .pre .0)) ∙ ap (yesOn (a .p .q)) (sym e)
 
 pub chain-passes-spec : {M : Type 1} → statement M
 chain-passes-spec =
@@ -173,7 +173,7 @@ chain-passes-spec =
     enum-told
     returns
     loop-holds
-    bin-of-requires
+    bin-hash-requires
     enum-known-drawn
     enum-told-2
     returns-2
@@ -186,5 +186,5 @@ chain-passes-spec =
     add-followed
     loop-less
     loop-again
-    says-yes-requires
+    proof-hash-requires
     returns-5)

@@ -4,7 +4,7 @@ use mathlib.Core.Bool.{true, false}
 use mathlib.Core.List.{List}
 use lib.ListN.{length}
 use Rattle.centralized_telescope.specs.Elements.{Element, elements}
-use Rattle.centralized_telescope.specs.ElementsLaws.{length-elements}
+use Rattle.centralized_telescope.specs.laws.ElementsLaws.{length-elements}
 use Rattle.centralized_telescope.proofs.VerdictAnswers.{other-length, width-reached, retries-reached, chain-told}
 use native.Mathlib.Omega.{arith}
 use borrow.Author.Needs.{needs}

@@ -5,7 +5,7 @@ use Prim.Native.Nat.{ℕ, _-_, _≤_}
 use native.Mathlib.Omega.{arith}
 use borrow.Author.Needs.{needs}
 use lib.ListN.{length, take, drop, set, getD, length-set}
-use Rattle.centralized_telescope.specs.ListsLaws.{copy-more}
+use Rattle.centralized_telescope.specs.laws.ListsLaws.{copy-more}
 use Rattle.centralized_telescope.proofs.proof.write_places.Statement.{statement}
 use Rattle.centralized_telescope.proofs.proof.write_places.Tie as tie
 

@@ -5,8 +5,8 @@ use native.Mathlib.Omega.{arith}
 use borrow.Author.Needs.{needs}
 use borrow.Author.Tests.{lt-ltb, le-ltb}
 use lib.ListN.{length, drop}
-use Rattle.centralized_telescope.specs.WrittenOut.{dataOf}
-use Rattle.centralized_telescope.specs.WrittenOutLaws.{place-within}
+use Rattle.centralized_telescope.specs.inner.ListReading.{dataOf}
+use Rattle.centralized_telescope.specs.laws.WrittenOutLaws.{place-within}
 use Rattle.centralized_telescope.proofs.ProofWriting.{data-more, data-end}
 use Rattle.centralized_telescope.proofs.proof_list.is_data_over.Statement.{statement}
 use Rattle.centralized_telescope.proofs.proof_list.is_data_over.Tie as tie

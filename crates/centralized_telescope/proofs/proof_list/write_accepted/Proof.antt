@@ -2,7 +2,7 @@
 use mathlib.Core.Path.{sym, _∙_}
 use mathlib.Core.Bool.{false}
 use borrow.Author.Needs.{needs}
-use Rattle.centralized_telescope.specs.ElementsLaws.{ends-right}
+use Rattle.centralized_telescope.specs.laws.ElementsLaws.{ends-right}
 use Rattle.centralized_telescope.specs.WrittenOut.{wrote}
 use Rattle.centralized_telescope.proofs.ProofAnswers.{too-many, place-past, same-size, too-short, all-written}
 use Rattle.centralized_telescope.proofs.proof_list.write_accepted.Statement.{statement}

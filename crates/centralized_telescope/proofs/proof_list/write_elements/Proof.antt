@@ -5,7 +5,7 @@ use native.Mathlib.Omega.{arith}
 use borrow.Author.Needs.{needs}
 use lib.ListN.{length, take, length-set}
 use lib.Seq.{take-all}
-use Rattle.centralized_telescope.specs.ElementsLaws.{ends-right, same-marks, same-indexes}
+use Rattle.centralized_telescope.specs.laws.ElementsLaws.{ends-right, same-marks, same-indexes}
 use Rattle.centralized_telescope.specs.WrittenOut.{chosen, wrote, written}
 use Rattle.centralized_telescope.proofs.ProofWriting.{rooms, none-written, one-written, used-is, in-list, own-is, own-short, own-fits, mark-is, number-is}
 use Rattle.centralized_telescope.proofs.proof_list.write_elements.Statement.{statement}

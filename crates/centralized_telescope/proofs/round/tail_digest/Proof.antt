@@ -3,8 +3,8 @@ use mathlib.Core.Path.{sym, ap}
 use native.Mathlib.Omega.{arith}
 use lib.ListN.{length}
 use lib.Seq.{length-take-le}
-use Rattle.centralized_telescope.specs.Elements.{indexAt}
-use Rattle.centralized_telescope.specs.ElementsLaws.{same-marks, same-indexes, ends-right, index-short, data-short, tail-there}
+use Rattle.centralized_telescope.specs.inner.ListReading.{indexAt}
+use Rattle.centralized_telescope.specs.laws.ElementsLaws.{same-marks, same-indexes, ends-right, index-short, data-short, tail-there}
 use Rattle.centralized_telescope.proofs.RoundHashes.{tail-is}
 use Rattle.centralized_telescope.proofs.round.tail_digest.Statement.{statement}
 use Rattle.centralized_telescope.proofs.round.tail_digest.Tie as tie

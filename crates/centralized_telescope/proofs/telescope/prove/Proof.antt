@@ -1,49 +1,83 @@
--- `prove`: 1, 2, 3, then what lawful settings give.
+-- `prove`: settings, list, workspace, number of elements, then the tries.
 use mathlib.Core.Path.{_≡_, sym, ap, _∙_}
-use Prim.Native.Nat.{ℕ}
 use native.Mathlib.Omega.{arith}
-use Rattle.centralized_telescope.specs.Params.{checkedNumber}
-use Rattle.centralized_telescope.specs.ParamsLaws.{number-alone}
-use Rattle.centralized_telescope.specs.Prover.{refused, proved}
-use Rattle.centralized_telescope.proofs.ProveAnswers.{settings-refused}
+use Rattle.sampling.specs.Sample.{valueOf}
+use Rattle.centralized_telescope.specs.Params.{checked, checkedNumber}
+use Rattle.centralized_telescope.specs.laws.ParamsLaws.{number-alone, lawful}
+use Rattle.centralized_telescope.specs.Elements.{listCheck, listNumber}
+use Rattle.centralized_telescope.proofs.ProveAnswers.{settings-refused, list-refused, places-short, table-short, few-refused, all-served}
 use borrow.Author.Needs.{needs}
 use Rattle.centralized_telescope.proofs.telescope.prove.Statement.{statement}
 use Rattle.centralized_telescope.proofs.telescope.prove.Tie as tie
 
--- a refusal of the settings, by its number
-refusal : (s : tie.After-check-params) (k : ℕ) → checkedNumber (s .check-params .result) ≡ (k, 0) → (k ≡ 0 → ⊥)
-    → (let a = s .before .before .before .before .before .before .before .args in
-    refused k (a .places .now) (a .bins .now) ≡ proved (a .p) (a .«data» .now) (a .ends .now) (a .marks .now) (a .indexes .now) (a .places .now) (a .bins .now))
-refusal s k e n =
-    let a = s .before .before .before .before .before .before .before .args in
-    sym (settings-refused (a .p) (a .«data» .now) (a .ends .now) (a .marks .now) (a .indexes .now) (a .places .now) (a .bins .now) k (number-alone (sym (s .check-params .ensures) ∙ e)) n)
+-- the settings pass, with X
+lawful-settings : (s : tie.After-x) → checked (s .before .before .before .before .before .before .before .before .before .args .p) ≡ (0, valueOf (s .x .given .0 .0))
+lawful-settings s = sym (s .before .before .check-params .ensures) ∙ ap checkedNumber (s .x .given .1)
+
+-- the list is accepted
+accepted : (s : tie.After-enum-told) → (let a = s .before .before .before .before .before .before .before .before .before .before .before .before .before .args in listCheck (a .«data» .now) (a .ends .now) (a .marks .now) (a .indexes .now) ≡ 0)
+accepted s = sym (s .before .before .check-list .ensures) ∙ ap listNumber (s .enum-told .given .1)
 
 check-params-requires : tie.Need-check-params-requires
 check-params-requires c κs = search needs
 
+enum-known-x : tie.Need-enum-known-x
+enum-known-x c = search needs
+
+enum-known-k : tie.Need-enum-known-k
+enum-known-k c = search needs
+
+returns : tie.Need-returns
+returns c =
+    let s = c .before in
+    let a = s .before .before .before .before .before .before .before .before .before .args in
+    sym (settings-refused (a .p) (a .«data» .now) (a .ends .now) (a .marks .now) (a .indexes .now) (a .places .now) (a .bins .now) (s .k .given .0 .0) (sym (s .before .before .check-params .ensures) ∙ ap checkedNumber (s .k .given .1)))
+
+check-list-requires : tie.Need-check-list-requires
+check-list-requires c κs = search needs
+
 enum-told : tie.Need-enum-told
 enum-told c = search needs
 
-enum-told-2 : tie.Need-enum-told-2
-enum-told-2 c = search needs
-
-enum-told-3 : tie.Need-enum-told-3
-enum-told-3 c = search needs
-
-enum-known-settings : tie.Need-enum-known-settings
-enum-known-settings c = search needs
-
-prove-lawful-requires : tie.Need-prove-lawful-requires
-prove-lawful-requires c κs = sym (c .before .before .before .before .before .check-params .ensures) ∙ ap checkedNumber (c .before .before .before .settings .given .1)
-
-returns : tie.Need-returns
-returns c = refusal (c .before .before) 1 (ap checkedNumber (c .enum-told .given .1)) (λ z. omega arith)
+enum-known-k-2 : tie.Need-enum-known-k-2
+enum-known-k-2 c = search needs
 
 returns-2 : tie.Need-returns-2
-returns-2 c = refusal (c .before .before) 2 (ap checkedNumber (c .enum-told2 .given .1)) (λ z. omega arith)
+returns-2 c =
+    let s = c .before in
+    let a = s .before .before .before .before .before .before .before .before .before .before .before .before .before .args in
+    sym
+    (list-refused (a .p) (a .«data» .now) (a .ends .now) (a .marks .now) (a .indexes .now) (a .places .now) (a .bins .now) (number-alone (lawful-settings (s .before .before .before .before)))
+    (s .k2 .given .0 .0) (sym (s .before .before .check-list .ensures) ∙ ap listNumber (s .k2 .given .1)))
 
 returns-3 : tie.Need-returns-3
-returns-3 c = refusal (c .before .before) 3 (ap checkedNumber (c .enum-told3 .given .1)) (λ z. omega arith)
+returns-3 c =
+    let s = c .before in
+    let a = s .before .before .before .before .before .before .before .before .before .before .before .before .before .args in
+    sym (places-short (a .p) (a .«data» .now) (a .ends .now) (a .marks .now) (a .indexes .now) (a .places .now) (a .bins .now) (number-alone (lawful-settings (s .before .before .before .before))) (accepted s) (c .if1 .taken))
+
+mul-if2 : tie.Need-mul-if2
+mul-if2 c = let s = c .before .before .before .before .before in omega (arith, lawful (s .before .before .before .before .before .before .before .before .before .args .p) (valueOf (s .x .given .0 .0)) (lawful-settings s) .set-size)
+
+add-if2 : tie.Need-add-if2
+add-if2 c = let s = c .before .before .before .before .before in omega (arith, lawful (s .before .before .before .before .before .before .before .before .before .args .p) (valueOf (s .x .given .0 .0)) (lawful-settings s) .set-size)
+
+returns-4 : tie.Need-returns-4
+returns-4 c =
+    let s = c .before .before in
+    let a = s .before .before .before .before .before .before .before .before .before .before .before .before .before .args in
+    sym (table-short (a .p) (a .«data» .now) (a .ends .now) (a .marks .now) (a .indexes .now) (a .places .now) (a .bins .now) (number-alone (lawful-settings (s .before .before .before .before))) (accepted s) (c .before .if1 .left) (c .if2 .taken))
+
+returns-5 : tie.Need-returns-5
+returns-5 c =
+    let s = c .before .before .before in
+    let a = s .before .before .before .before .before .before .before .before .before .before .before .before .before .args in
+    sym
+    (few-refused (a .p) (a .«data» .now) (a .ends .now) (a .marks .now) (a .indexes .now) (a .places .now) (a .bins .now) (number-alone (lawful-settings (s .before .before .before .before))) (accepted s)
+    (c .before .before .if1 .left) (c .before .if2 .left) (c .if3 .taken))
+
+prove-routine-requires : tie.Need-prove-routine-requires
+prove-routine-requires c κs = (lawful-settings (c .before .before .before .before .before .before .before .before .before), accepted (c .before .before .before .before .before), c .before .before .before .before .if1 .left, c .before .before .before .if2 .left)
 
 same-length : tie.Need-same-length
 same-length c = search needs
@@ -51,22 +85,33 @@ same-length c = search needs
 same-length-2 : tie.Need-same-length-2
 same-length-2 c = search needs
 
-returns-4 : tie.Need-returns-4
-returns-4 c = search needs
+returns-6 : tie.Need-returns-6
+returns-6 c =
+    let s = c .before .before .before .before .before .before .before .before .before .before in
+    let a = s .before .before .before .before .before .before .before .before .before .before .before .before .before .args in
+    c .before .before .before .before .prove-routine .ensures
+    ∙ sym
+    (all-served (a .p) (a .«data» .now) (a .ends .now) (a .marks .now) (a .indexes .now) (a .places .now) (a .bins .now) (number-alone (lawful-settings (s .before .before .before .before))) (accepted s)
+    (c .before .before .before .before .before .before .before .before .before .if1 .left) (c .before .before .before .before .before .before .before .before .if2 .left) (c .before .before .before .before .before .before .before .if3 .left))
 
 pub prove-spec : {M : Type 1} → statement M
 prove-spec =
     tie.close
     (tie.spec
     check-params-requires
-    enum-told
-    enum-told-2
-    enum-told-3
-    enum-known-settings
-    prove-lawful-requires
+    enum-known-x
+    enum-known-k
     returns
+    check-list-requires
+    enum-told
+    enum-known-k-2
     returns-2
     returns-3
+    mul-if2
+    add-if2
+    returns-4
+    returns-5
+    prove-routine-requires
     same-length
     same-length-2
-    returns-4)
+    returns-6)

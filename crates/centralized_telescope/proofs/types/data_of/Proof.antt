@@ -1,8 +1,8 @@
 -- `data_of`: the part of the data from the start to the end, both within it since no end falls or passes the data.
 use native.Mathlib.Omega.{arith}
 use borrow.Author.Needs.{needs}
-use Rattle.centralized_telescope.specs.Elements.{dataAt}
-use Rattle.centralized_telescope.specs.ElementsLaws.{start-before-end, end-within}
+use Rattle.centralized_telescope.specs.inner.ListReading.{dataAt}
+use Rattle.centralized_telescope.specs.laws.ElementsLaws.{start-before-end, end-within}
 use Rattle.centralized_telescope.proofs.types.data_of.Statement.{statement}
 use Rattle.centralized_telescope.proofs.types.data_of.Tie as tie
 

@@ -3,7 +3,7 @@ use mathlib.Core.Path.{ap}
 use native.Mathlib.Omega.{arith}
 use borrow.Author.Needs.{needs}
 use lib.ListN.{length, getD}
-use Rattle.sampling.specs.BigEndianLaws.{length-bytesOf}
+use Rattle.sampling.specs.laws.BigEndianLaws.{length-bytesOf}
 use Rattle.centralized_telescope.proofs.RoundHashes.{index-read, index-none}
 use Rattle.centralized_telescope.proofs.types.index_bytes.Statement.{statement}
 use Rattle.centralized_telescope.proofs.types.index_bytes.Tie as tie

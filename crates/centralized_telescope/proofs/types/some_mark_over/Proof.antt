@@ -6,7 +6,7 @@ use borrow.Author.Tests.{lt-ltb, le-ltb}
 use lib.Dec.{ltb}
 use lib.ListN.{length, drop}
 use Rattle.centralized_telescope.specs.Elements.{markOver}
-use Rattle.centralized_telescope.specs.ListsLaws.{some-here, some-behind, some-done}
+use Rattle.centralized_telescope.specs.laws.ListsLaws.{some-here, some-behind, some-done}
 use Rattle.centralized_telescope.proofs.types.some_mark_over.Statement.{statement}
 use Rattle.centralized_telescope.proofs.types.some_mark_over.Tie as tie
 

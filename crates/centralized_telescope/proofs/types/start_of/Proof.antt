@@ -1,8 +1,8 @@
 -- `start_of`: 0 at the first place, else the end before it.
 use mathlib.Core.Path.{sym, _∙_}
 use borrow.Author.Needs.{needs}
-use Rattle.centralized_telescope.specs.Elements.{startAt}
-use Rattle.centralized_telescope.specs.ElementsLaws.{start-later}
+use Rattle.centralized_telescope.specs.inner.ListReading.{startAt}
+use Rattle.centralized_telescope.specs.laws.ElementsLaws.{start-later}
 use Rattle.centralized_telescope.proofs.types.start_of.Statement.{statement}
 use Rattle.centralized_telescope.proofs.types.start_of.Tie as tie
 

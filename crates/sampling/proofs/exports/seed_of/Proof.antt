@@ -1,7 +1,7 @@
 -- `seed_of`: a copy of the whole.
 use mathlib.Core.Path.{_∙_}
 use borrow.Author.Needs.{needs}
-use Rattle.sampling.specs.CommonLaws.{copied}
+use Rattle.sampling.specs.laws.CommonLaws.{copied}
 use Rattle.sampling.proofs.exports.seed_of.Statement.{statement}
 use Rattle.sampling.proofs.exports.seed_of.Tie as tie
 

@@ -3,7 +3,7 @@ use mathlib.Core.Path.{_≡_, refl}
 use mathlib.Core.Bool.{true, false}
 use lib.IntN.{pos}
 use lib.Ieee.{fin, binary64, ofBits}
-use Rattle.sampling.specs.SampleLaws.{nan-outside, by-bounds}
+use Rattle.sampling.specs.laws.SampleLaws.{nan-outside, by-bounds}
 use Rattle.sampling.proofs.sample.is_outside_unit.Statement.{statement}
 use Rattle.sampling.proofs.sample.is_outside_unit.Tie as tie
 

@@ -3,7 +3,7 @@ use mathlib.Core.Path.{_≡_, sym, ap, _∙_}
 use mathlib.Core.Bool.{Bool, true, false, cond}
 use borrow.Author.Needs.{needs}
 use Rattle.sampling.specs.Sample.{bernoulli, thresholdNumber}
-use Rattle.sampling.specs.SampleLaws.{bernoulli-at, bernoulli-not}
+use Rattle.sampling.specs.laws.SampleLaws.{bernoulli-at, bernoulli-not}
 use Rattle.sampling.proofs.sample.sample_bernoulli.Statement.{statement}
 use Rattle.sampling.proofs.sample.sample_bernoulli.Tie as tie
 

@@ -2,7 +2,7 @@
 use mathlib.Core.Path.{sym, ap, _∙_}
 use Prim.Native.Nat.{ℕ}
 use borrow.Author.Needs.{needs}
-use Rattle.sampling.specs.SampleLaws.{threshold-refused, threshold-at}
+use Rattle.sampling.specs.laws.SampleLaws.{threshold-refused, threshold-at}
 use Rattle.sampling.proofs.sample.threshold_of.Statement.{statement}
 use Rattle.sampling.proofs.sample.threshold_of.Tie as tie
 

@@ -3,7 +3,7 @@ use mathlib.Core.Path.{sym, subst}
 use borrow.Author.Needs.{needs}
 use lib.Dec.{T}
 use lib.Ieee.{binary64, fits}
-use Rattle.sampling.specs.SampleLaws.{inside-no-nan}
+use Rattle.sampling.specs.laws.SampleLaws.{inside-no-nan}
 use Rattle.sampling.proofs.ThresholdBits.{no-words, low-word, both-words, high-word, full-words}
 use Rattle.sampling.proofs.sample.threshold_words.Statement.{statement}
 use Rattle.sampling.proofs.sample.threshold_words.Tie as tie

@@ -7,7 +7,7 @@ use borrow.Author.Needs.{needs}
 use lib.ListN.{length, take}
 use lib.Seq.{take-length}
 use Rattle.sampling.specs.Hasher.{absorbBytes}
-use Rattle.sampling.specs.HasherLaws.{one-block, whole-blocks}
+use Rattle.sampling.specs.laws.HasherLaws.{one-block, whole-blocks}
 use Rattle.sampling.specs.declared.sha256.Hasher.{Hasher}
 use Rattle.sampling.proofs.sha256.absorb_blocks.Statement.{statement}
 use Rattle.sampling.proofs.sha256.absorb_blocks.Tie as tie

@@ -1,7 +1,7 @@
 -- `absorb_end`: the string fills the block, and the block goes into the hash value.
 use mathlib.Core.Path.{sym}
 use borrow.Author.Needs.{needs}
-use Rattle.sampling.specs.HasherLaws.{fills-block}
+use Rattle.sampling.specs.laws.HasherLaws.{fills-block}
 use Rattle.sampling.proofs.sha256.absorb_end.Statement.{statement}
 use Rattle.sampling.proofs.sha256.absorb_end.Tie as tie
 

@@ -1,7 +1,7 @@
 -- `absorb_part`: the string stays in the block that is being filled.
 use mathlib.Core.Path.{sym}
 use borrow.Author.Needs.{needs}
-use Rattle.sampling.specs.HasherLaws.{within-block}
+use Rattle.sampling.specs.laws.HasherLaws.{within-block}
 use Rattle.sampling.proofs.sha256.absorb_part.Statement.{statement}
 use Rattle.sampling.proofs.sha256.absorb_part.Tie as tie
 

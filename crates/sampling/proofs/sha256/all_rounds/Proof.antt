@@ -5,7 +5,7 @@ use native.Mathlib.Omega.{arith}
 use borrow.Author.Needs.{needs}
 use lib.ListN.{length-take, length-drop}
 use Rattle.sampling.specs.Fips180.{W, rounds}
-use Rattle.sampling.specs.HashInner.{Window}
+use Rattle.sampling.specs.inner.HashInner.{Window}
 use Rattle.sampling.proofs.Schedule.{first-window}
 use Rattle.sampling.proofs.Rounds.{sixteen}
 use Rattle.sampling.proofs.sha256.all_rounds.Statement.{statement}

@@ -6,7 +6,7 @@ use native.Mathlib.Omega.{arith}
 use native.Mathlib.Nat.{add-zero}
 use borrow.Author.Needs.{needs}
 use lib.ListN.{length, length-set}
-use Rattle.sampling.specs.HashInner.{Window}
+use Rattle.sampling.specs.inner.HashInner.{Window}
 use Rattle.sampling.proofs.Schedule.{next-window}
 use Rattle.sampling.proofs.sha256.extend.Statement.{statement}
 use Rattle.sampling.proofs.sha256.extend.Tie as tie

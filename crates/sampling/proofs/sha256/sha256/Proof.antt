@@ -2,7 +2,7 @@
 use mathlib.Core.Path.{_∙_}
 use mathlib.Core.List.{append-assoc}
 use borrow.Author.Needs.{needs}
-use Rattle.sampling.specs.HasherLaws.{absorbed-twice, absorbed-hashes}
+use Rattle.sampling.specs.laws.HasherLaws.{absorbed-twice, absorbed-hashes}
 use Rattle.sampling.proofs.sha256.sha256.Statement.{statement}
 use Rattle.sampling.proofs.sha256.sha256.Tie as tie
 

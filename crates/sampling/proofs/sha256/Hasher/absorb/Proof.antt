@@ -4,7 +4,7 @@ use mathlib.Core.Path.{sym, _∙_}
 use native.Mathlib.Omega.{arith}
 use borrow.Author.Needs.{needs}
 use borrow.Author.Tests.{ltb-true, ltb-false}
-use Rattle.sampling.specs.HasherLaws.{absorbed-within, absorbed-over}
+use Rattle.sampling.specs.laws.HasherLaws.{absorbed-within, absorbed-over}
 use Rattle.sampling.proofs.sha256.Hasher.absorb.Statement.{statement}
 use Rattle.sampling.proofs.sha256.Hasher.absorb.Tie as tie
 

@@ -3,8 +3,8 @@ use mathlib.Core.Path.{sym, ap, _∙_}
 use native.Mathlib.Omega.{arith}
 use borrow.Author.Needs.{needs}
 use lib.ListN.{length, length-take}
-use Rattle.sampling.specs.BigEndianLaws.{length-bytesOf}
-use Rattle.sampling.specs.HasherLaws.{finished-over}
+use Rattle.sampling.specs.laws.BigEndianLaws.{length-bytesOf}
+use Rattle.sampling.specs.laws.HasherLaws.{finished-over}
 use Rattle.sampling.proofs.Absorbing.{len-after, digested}
 use Rattle.sampling.proofs.sha256.Hasher.finish.Statement.{statement}
 use Rattle.sampling.proofs.sha256.Hasher.finish.Tie as tie

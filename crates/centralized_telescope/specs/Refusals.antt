@@ -1,0 +1,17 @@
+-- 01, Lent and given back, the table: the number of each refusal. Every call's refusal has its number from here. 42 is in no line of 01's:
+-- `write_proof` gives it (docs/DECISIONS.md, Lists).
+use Prim.Native.Nat.{ℕ}
+use Rattle.centralized_telescope.specs.declared.errors.Refusal.{Refusal}
+use Rattle.centralized_telescope.specs.declared.errors.Refusal.the-variants as refusal
+
+abbrev pub refusalNumber : Refusal → ℕ
+refusalNumber refusal.SetSize = 1  -- settings: set_size
+refusalNumber refusal.Limit = 2  -- settings: another whole number
+refusalNumber refusal.Probability = 3  -- settings: q
+refusalNumber refusal.Malformed = 4  -- list: its form
+refusalNumber refusal.TooLarge = 5  -- list: its size
+refusalNumber refusal.WorkspaceShort = 6  -- prover: what is lent to work in
+refusalNumber refusal.NotEnoughElements = 10  -- prover: fewer elements than set_size
+refusalNumber refusal.ProofSize = 30  -- small case: u
+refusalNumber refusal.Completeness = 31  -- small case: c
+refusalNumber refusal.BufferShort = 42  -- a buffer to write into

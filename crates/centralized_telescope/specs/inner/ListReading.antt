@@ -1,0 +1,36 @@
+-- A lent list as the code reads it. ElementsLaws and WrittenOutLaws tie this to `elements`, and the proofs to `listCheck`.
+use mathlib.Core.Bool.{Bool, cond, not, _||_}
+use mathlib.Core.List.{List, [], _∷_, _++_}
+use mathlib.Core.Option.{Option}
+use Prim.Native.Nat.{ℕ, _-_}
+use lib.Dec.{ltb, eqb}
+use lib.ListN.{take, drop, getD}
+use Rattle.centralized_telescope.specs.Elements.{indexOf}
+
+-- ---- one place
+
+-- where the data of the element at a place starts: of the first at 0, of each other at the end before it
+unfoldable pub startAt : List ℕ → ℕ → ℕ
+startAt ends place = getD (0 ∷ ends) place 0
+
+-- its data bytes
+unfoldable pub dataAt : List ℕ → List ℕ → ℕ → List ℕ
+dataAt bytes ends place = take (getD ends place 0 - startAt ends place) (drop (startAt ends place) bytes)
+
+-- its index, if it has one
+abbrev pub indexAt : List ℕ → List ℕ → ℕ → Option ℕ
+indexAt marks indexes place = indexOf (getD marks place 0) (getD indexes place 0)
+
+-- ---- some places
+
+-- the data bytes of the elements there
+unfoldable pub dataOf : List ℕ → List ℕ → List ℕ → List ℕ
+dataOf bytes ends [] = []
+dataOf bytes ends (place ∷ places) = dataAt bytes ends place ++ dataOf bytes ends places
+
+-- ---- the list's number
+
+-- the same number by what is found in a list: the lengths of ends, marks and indexes; a mark over 1, a wrong end, over-long data
+abbrev pub foundNumber : ℕ → ℕ → ℕ → Bool → Bool → Bool → ℕ
+foundNumber n m x over wrong long =
+    cond (not (eqb n m) || (not (eqb n x) || (over || wrong))) 4 (cond (ltb 65536 n || long) 5 0)

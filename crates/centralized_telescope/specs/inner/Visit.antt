@@ -1,0 +1,73 @@
+-- What the parts of the search's code give, in the terms of specs/Search and of Walk. Nothing here is to be believed by a reader: the
+-- contract of `prove` speaks of specs/Prover alone, and the proofs tie these to it.
+use mathlib.Core.Path.{_≡_}
+use mathlib.Core.Bool.{cond}
+use mathlib.Core.List.{List, _++_}
+use Prim.Native.Nat.{ℕ, _+_, _-_, _≤_}
+use lib.Dec.{ltb}
+use lib.ListN.{getD}
+use Rattle.centralized_telescope.specs.declared.params.Params.{Params}
+use Rattle.centralized_telescope.specs.declared.proof.Outcome.{Outcome}
+use Rattle.centralized_telescope.specs.declared.proof.Outcome.the-variants as outcome
+use Rattle.centralized_telescope.specs.declared.proof.Attempt.{Attempt}
+use Rattle.centralized_telescope.specs.declared.proof.Attempt.the-variants as attempt
+use Rattle.centralized_telescope.specs.Params.{checked}
+use Rattle.centralized_telescope.specs.Elements.{elements, listCheck}
+use Rattle.centralized_telescope.specs.Lists.{over}
+use Rattle.centralized_telescope.specs.Bins.{tableOf}
+use Rattle.centralized_telescope.specs.Chains.{Try, tryOf, Chain}
+use Rattle.centralized_telescope.specs.Search.{binsOf, along, chains, chainsFrom, passing}
+use Rattle.centralized_telescope.specs.inner.Walk.{Ended, found, missing, walk}
+
+-- the try of a retry counter on a lent list
+abbrev pub tryOn : Params → List ℕ → List ℕ → List ℕ → List ℕ → ℕ → Try
+tryOn p bytes ends marks indexes R = tryOf p (elements bytes ends marks indexes) R
+
+-- ---- the walk of some of a try's chains, after `count` steps
+
+-- of those that begin with a round at a depth
+unfoldable pub visited : Try → ℕ → List ℕ → ℕ → List ℕ → ℕ → ℕ → Ended Chain
+visited T S h i places depth count =
+    walk (passing T) (T .settings .«dfs_bound») count (chains T S (T .settings .«proof_size» - depth) h i places)
+
+-- of those that grow from a round at a depth by one of some candidates
+unfoldable pub walked : Try → ℕ → List ℕ → List ℕ → ℕ → List ℕ → ℕ → Ended Chain
+walked T S h places depth candidates count =
+    walk (passing T) (T .settings .«dfs_bound») count (along T (chains T S (T .settings .«proof_size» - (depth + 1))) h places candidates)
+
+-- of those of w search counters from S on
+unfoldable pub tried : Try → ℕ → ℕ → ℕ → Ended Chain
+tried T w S count = walk (passing T) (T .settings .«dfs_bound») count (chainsFrom T w S)
+
+-- ---- the answers, and the lent places afterwards
+
+abbrev pub outcomeOf : Ended Chain → Outcome
+outcomeOf (found count c) = outcome.Found count
+outcomeOf (missing count) = outcome.Missing count
+
+abbrev pub attemptOf : Ended Chain → Attempt
+attemptOf (found count c) = attempt.Found (record { 0 = c .search }) count
+attemptOf (missing count) = attempt.Missing count
+
+unfoldable pub written : Ended Chain → List ℕ → List ℕ
+written (found count c) places = over (c .places) places
+written (missing count) places = places
+
+-- after a visit: a chain of full length is written by the walk that led to it
+unfoldable pub writtenFrom : Params → ℕ → Ended Chain → List ℕ → List ℕ
+writtenFrom p depth r places = cond (ltb depth (p .«proof_size»)) (written r places) places
+
+-- ---- what the search is given: settings that pass the check with the threshold X, an accepted list, the try's bin table, and room
+
+pub record Ready (p : Params) (X : ℕ) (bytes ends marks indexes : List ℕ) (R : ℕ) (table : List ℕ) (room : ℕ) : Type 0 where
+  pub settings : checked p ≡ (0, X)
+  pub list : listCheck bytes ends marks indexes ≡ 0
+  pub rest : List ℕ
+  pub table-is : table ≡ tableOf (p .«set_size») (binsOf (tryOn p bytes ends marks indexes R)) ++ rest
+  pub roomy : p .«proof_size» ≤ room
+
+-- a part of the table within its places
+pub record Span (p : Params) (table : List ℕ) (from to : ℕ) : Type 0 where
+  pub low : p .«set_size» + 1 ≤ from
+  pub order : from ≤ to
+  pub high : to ≤ p .«set_size» + 1 + getD table (p .«set_size») 0

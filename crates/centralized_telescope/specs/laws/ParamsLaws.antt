@@ -1,0 +1,98 @@
+-- Laws of the settings' definitions. A caller that cites these opens none of the definitions.
+use mathlib.Core.Path.{_≡_, refl, sym, ap, _∙_}
+use mathlib.Core.Bool.{Bool, true, false}
+use Prim.Native.Nat.{ℕ, _-_, _^_, _≤_, _<_}
+use native.Mathlib.Omega.{arith}
+use borrow.Author.Tests.{le-ltb, ltb-false}
+use lib.Dec.{ltb}
+use Rattle.sampling.specs.Sample.{outsideUnit, threshold, thresholdOrRefusal}
+use Rattle.sampling.specs.laws.SampleLaws.{threshold-refused, threshold-at}
+use Rattle.centralized_telescope.specs.declared.params.Params.{Params}
+use Rattle.centralized_telescope.specs.laws.TestLaws.{neither}
+use Rattle.centralized_telescope.specs.Params.{notOneTo, setSizeOut, limitBroken, checked}
+
+-- ---- a range
+
+module _ {hi n : ℕ} where
+  pub one-to : notOneTo hi n ≡ false → (1 ≤ n) × (n ≤ hi)
+  unfolding notOneTo
+  one-to e = let b = neither (ltb n 1) e in (ltb-false n 1 (b .0), ltb-false hi n (b .1))
+
+-- ---- the check
+
+-- the whole numbers' limits
+pub record Limits (p : Params) : Type 0 where
+  pub proof-size : p .«proof_size» ≤ 1024
+  pub max-retries : p .«max_retries» ≤ 65535
+  pub search-width : p .«search_width» ≤ 2 ^ 32 - 1
+  pub dfs-bound : p .«dfs_bound» ≤ 2 ^ 48
+
+-- all that settings keep which pass the check, and what it then hands over: X of q
+pub record Lawful (p : Params) (x : ℕ) : Type 0 where
+  pub set-size : (1 ≤ p .«set_size») × (p .«set_size» ≤ 32768)
+  pub limits : Limits p
+  pub unit : outsideUnit (p .q) ≡ false
+  pub threshold-is : x ≡ threshold (p .q)
+
+-- the number of an answer with X, alone
+pub number-alone : {a : ℕ × ℕ} {k x : ℕ} → a ≡ (k, x) → a .0 ≡ k
+number-alone e = ap (λ (a : ℕ × ℕ). a .0) e
+
+module _ (p : Params) where
+  pub limits-kept : limitBroken p ≡ false → Limits p
+  unfolding limitBroken
+  limits-kept e =
+      let a = neither (ltb 1024 (p .«proof_size»)) e in
+      let b = neither (ltb 65535 (p .«max_retries»)) (a .1) in
+      let c = neither (ltb (2 ^ 32 - 1) (p .«search_width»)) (b .1) in
+      record {
+        proof-size = ltb-false 1024 (p .«proof_size») (a .0);
+        max-retries = ltb-false 65535 (p .«max_retries») (b .0);
+        search-width = ltb-false (2 ^ 32 - 1) (p .«search_width») (c .0);
+        dfs-bound = ltb-false (2 ^ 48) (p .«dfs_bound») (c .1);
+      }
+
+  pub within-limits : Limits p → limitBroken p ≡ false
+  unfolding limitBroken
+  within-limits l =
+      rw (
+        le-ltb 1024 (p .«proof_size») (l .proof-size),
+        le-ltb 65535 (p .«max_retries») (l .max-retries),
+        le-ltb (2 ^ 32 - 1) (p .«search_width») (l .search-width),
+        le-ltb (2 ^ 48) (p .«dfs_bound») (l .dfs-bound),
+      )
+
+  -- by the tests, in the table's order
+  pub set-size-refused : setSizeOut (p .«set_size») ≡ true → checked p ≡ (1, 0)
+  unfolding checked
+  set-size-refused s = rw s
+
+  module _ (s : setSizeOut (p .«set_size») ≡ false) where
+    pub limit-refused : limitBroken p ≡ true → checked p ≡ (2, 0)
+    unfolding checked
+    limit-refused l = rw (s, l)
+
+    pub left-to-q : limitBroken p ≡ false → checked p ≡ thresholdOrRefusal (p .q)
+    unfolding checked
+    left-to-q l = rw (s, l)
+
+    pub passes : Limits p → outsideUnit (p .q) ≡ false → checked p ≡ (0, threshold (p .q))
+    passes l o = left-to-q (within-limits l) ∙ threshold-at (p .q) o
+
+  -- what a caller knows of settings that pass
+  pub lawful : (x : ℕ) → checked p ≡ (0, x) → Lawful p x
+  lawful x e = go (setSizeOut (p .«set_size»)) refl (limitBroken p) refl (outsideUnit (p .q)) refl
+    where
+      never : {k : ℕ} → 0 < k → checked p ≡ (k, 0) → Lawful p x
+      never k f = absurd (let z = ap (λ (a : ℕ × ℕ). a .0) (sym f ∙ e) in omega arith)
+
+      go : (s : Bool) → setSizeOut (p .«set_size») ≡ s → (l : Bool) → limitBroken p ≡ l → (o : Bool) → outsideUnit (p .q) ≡ o → Lawful p x
+      go true s l L o O = never (omega arith) (set-size-refused s)
+      go false s true L o O = never (omega arith) (limit-refused s L)
+      go false s false L true O = never (omega arith) (left-to-q s L ∙ threshold-refused (p .q) O)
+      go false s false L false O = record {
+        set-size = one-to s;
+        limits = limits-kept L;
+        unit = O;
+        threshold-is = ap (λ (a : ℕ × ℕ). a .1) (sym e ∙ left-to-q s L ∙ threshold-at (p .q) O);
+      }

@@ -1,0 +1,176 @@
+-- Laws of lists written out: what `write_proof` writes is accepted as a list, and its elements are those at the places.
+use mathlib.Core.Path.{_≡_, refl, sym, ap, _∙_}
+use mathlib.Core.Bool.{Bool, true, false, cond, _||_}
+use mathlib.Core.List.{List, [], _∷_, _++_, map, append-assoc}
+use mathlib.Core.Option.{Option, none, some}
+use Prim.Native.Nat.{ℕ, suc, _+_, _-_, _≤_, _<_}
+use native.Mathlib.Omega.{arith}
+use borrow.Author.Tests.{eq-eqb, eqb-true, leb-false, le-ltb, ltb-false}
+use lib.Dec.{ltb, leb, eqb}
+use lib.ListN.{length, take, drop, getD, length-append, length-map}
+use lib.Seq.{take-at, drop-at}
+use Rattle.centralized_telescope.specs.laws.TestLaws.{neither}
+use Rattle.centralized_telescope.specs.Elements.{Element, elementsFrom, elements, elementAt, indexOf, markOf, numberOf, markOver, endWrong, malformed, dataLong, tooLarge, listCheck}
+use Rattle.centralized_telescope.specs.laws.ElementsLaws.{data-there, bytes-short}
+use Rattle.centralized_telescope.specs.Lists.{Each, someOf}
+use Rattle.centralized_telescope.specs.laws.ListsLaws.{take-over, none-at, each-nil, each-cons, number-none}
+use Rattle.centralized_telescope.specs.WrittenOut.{joined, endsFrom, marksOf, indexesOf, chosen, placeOut, written, unwritten, WrittenOut, writeRefusal, proofWritten}
+use Rattle.centralized_telescope.specs.inner.ListReading.{dataOf}
+
+-- ---- a list written out is accepted
+
+pub length-ends : (from : ℕ) (es : List Element) → length (endsFrom from es) ≡ length es
+unfolding endsFrom
+length-ends from [] = refl
+length-ends from (e ∷ es) = ap suc (length-ends (from + length (e .bytes)) es)
+
+marks-right : (es : List Element) → markOver (marksOf es) ≡ false
+unfolding someOf
+marks-right [] = refl
+marks-right (e ∷ es) = go (e .index) (marks-right es)
+  where
+    go : (o : Option ℕ) {t : Bool} → t ≡ false → ltb 1 (markOf o) || t ≡ false
+    go none r = r
+    go (some n) r = r
+
+ends-rise : (from limit : ℕ) (es : List Element) → from + length (joined es) ≤ limit → endWrong from limit (endsFrom from es) ≡ false
+unfolding endWrong endsFrom joined
+ends-rise from limit [] h = refl
+ends-rise from limit (e ∷ es) h =
+    let l : from + (length (e .bytes) + length (joined es)) ≤ limit = omega (arith, length-append (e .bytes) (joined es)) in
+    rw (le-ltb (from + length (e .bytes)) from (omega arith), le-ltb limit (from + length (e .bytes)) (omega arith))
+    (ends-rise (from + length (e .bytes)) limit es (omega arith))
+
+-- an element with no more data than a list may have in one
+abbrev pub Short : Element → Type 0
+Short e = length (e .bytes) ≤ 4096
+
+none-long : (from : ℕ) (es : List Element) → Each Short es → dataLong from (endsFrom from es) ≡ false
+unfolding dataLong endsFrom Each
+none-long from [] s = refl
+none-long from (e ∷ es) s =
+    rw (le-ltb 4096 (from + length (e .bytes) - from) (omega (arith, s .0))) (none-long (from + length (e .bytes)) es (s .1))
+
+pub accepted-again : (es : List Element) → length es ≤ 65536 → Each Short es → listCheck (joined es) (endsFrom 0 es) (marksOf es) (indexesOf es) ≡ 0
+unfolding listCheck malformed tooLarge
+accepted-again es few s =
+    let N = length-ends 0 es in
+    let M = length-map es (λ (e : Element). markOf (e .index)) in
+    let X = length-map es (λ (e : Element). numberOf (e .index)) in
+    rw (
+      eq-eqb (length (endsFrom 0 es)) (length (marksOf es)) (N ∙ sym M),
+      eq-eqb (length (endsFrom 0 es)) (length (indexesOf es)) (N ∙ sym X),
+      marks-right es,
+      ends-rise 0 (length (joined es)) es (omega arith),
+      le-ltb 65536 (length (endsFrom 0 es)) (omega arith),
+      none-long 0 es s,
+    )
+
+-- ---- and means the same elements
+
+index-again : (o : Option ℕ) → indexOf (markOf o) (numberOf o) ≡ o
+index-again none = refl
+index-again (some n) = refl
+
+own-bytes : (before own rest : List ℕ) → take (length before + length own - length before) (drop (length before) (before ++ (own ++ rest))) ≡ own
+own-bytes before own rest = rw (drop-at before (own ++ rest) (length before) refl) (take-at own rest (length before + length own - length before) (omega arith))
+
+elements-from : (before : List ℕ) (es : List Element)
+    → elementsFrom (length before) (before ++ joined es) (endsFrom (length before) es) (marksOf es) (indexesOf es) ≡ es
+unfolding elementsFrom endsFrom joined
+elements-from before [] = refl
+elements-from before (e ∷ es) =
+    ap {B = List Element}
+    (λ (k : Element). k ∷ elementsFrom (length before + length (e .bytes)) (before ++ (e .bytes ++ joined es)) (endsFrom (length before + length (e .bytes)) es) (marksOf es) (indexesOf es))
+    (first (own-bytes before (e .bytes) (joined es)) (index-again (e .index)))
+    ∙ ap (λ (l : List Element). e ∷ l) (rw (← append-assoc before (e .bytes) (joined es), ← length-append before (e .bytes)) (elements-from (before ++ e .bytes) es))
+  where
+    first : {b : List ℕ} {o : Option ℕ} → b ≡ e .bytes → o ≡ e .index → _≡_ {A = Element} (record { bytes = b; index = o }) e
+    first B I = rw (B, I)
+
+pub elements-again : (es : List Element) → elements (joined es) (endsFrom 0 es) (marksOf es) (indexesOf es) ≡ es
+elements-again es = elements-from [] es
+
+-- ---- the elements at some places of an accepted list
+
+place-head : (len place : ℕ) {t : Bool} → leb len place || t ≡ false → (place < len) × (t ≡ false)
+place-head len place e = let h = neither (leb len place) e in (leb-false len place (h .0), h .1)
+
+pub place-within : (len : ℕ) (places : List ℕ) (i : ℕ) → i < length places → placeOut len places ≡ false → getD places i 0 < len
+place-within len places i h e = leb-false len (getD places i 0) (none-at (leb len) places i 0 h e)
+
+module _ (d n m x : List ℕ) (A : listCheck d n m x ≡ 0) where
+  pub chosen-short : (places : List ℕ) → placeOut (length n) places ≡ false → Each Short (chosen places d n m x)
+  unfolding someOf
+  chosen-short [] e = each-nil Short
+  chosen-short (place ∷ places) e =
+      let p = place-head (length n) place e in
+      each-cons Short (elementAt (elements d n m x) place) (chosen places d n m x) (bytes-short d n m x A place (p .0)) (chosen-short places (p .1))
+
+  pub data-joined : (places : List ℕ) → placeOut (length n) places ≡ false → dataOf d n places ≡ joined (chosen places d n m x)
+  unfolding someOf dataOf joined
+  data-joined [] e = refl
+  data-joined (place ∷ places) e =
+      let p = place-head (length n) place e in
+      rw (data-there d n m x A place (p .0), data-joined places (p .1))
+
+-- ---- what `write_proof` writes
+
+unsaid : (t : Bool) (k : ℕ) → cond t (suc k) 0 ≡ 0 → t ≡ false
+unsaid true k e = absurd (omega arith)
+unsaid false k e = refl
+
+module _ (places d n m x b′ n′ m′ x′ : List ℕ) where
+  abbrev r : WrittenOut
+  r = proofWritten places d n m x b′ n′ m′ x′
+
+  abbrev es : List Element
+  es = chosen places d n m x
+
+  number-refusal : r .number ≡ 0 → writeRefusal places d n m x b′ n′ m′ x′ ≡ 0
+  unfolding proofWritten written
+  number-refusal = go (eqb refusal 0) refl
+    where
+      refusal : ℕ
+      refusal = writeRefusal places d n m x b′ n′ m′ x′
+
+      go : (t : Bool) → eqb refusal 0 ≡ t → cond t (written (chosen places d n m x) b′ n′ m′ x′) (unwritten refusal b′ n′ m′ x′) .number ≡ 0 → refusal ≡ 0
+      go true e h = eqb-true refusal 0 e
+      go false e h = h
+
+  module _ (W : r .number ≡ 0) where
+    is-written : r ≡ written (chosen places d n m x) b′ n′ m′ x′
+    unfolding proofWritten
+    is-written = rw (eq-eqb (writeRefusal places d n m x b′ n′ m′ x′) 0 (number-refusal W))
+
+    refusals : (listCheck d n m x ≡ 0) × (length places ≤ 65536) × (placeOut (length n) places ≡ false)
+    unfolding writeRefusal
+    refusals =
+        let l = number-none _ _ (number-refusal W) in
+        let f = number-none _ _ (l .1) in
+        let p = number-none _ _ (f .1) in
+        (l .0, ltb-false 65536 (length places) (unsaid (ltb 65536 (length places)) 4 (f .0)), unsaid (placeOut (length n) places) 3 (p .0))
+
+    -- the parts that a caller hands on: so many data bytes, and as many ends, marks and indexes as there are places
+    module _ (E : List ℕ → List ℕ → List ℕ → List ℕ → Type 0) where
+      parts : E (joined es) (endsFrom 0 es) (marksOf es) (indexesOf es)
+          → E (take (r .len) (r .bytes)) (take (length places) (r .ends)) (take (length places) (r .marks)) (take (length places) (r .indexes))
+      unfolding written
+      parts h =
+          let K = length-map places (elementAt (elements d n m x)) in
+          rw (
+            is-written,
+            take-over (length (joined es)) (joined es) b′ refl,
+            take-over (length places) (endsFrom 0 es) n′ (length-ends 0 es ∙ K),
+            take-over (length places) (marksOf es) m′ (length-map es (λ (e : Element). markOf (e .index)) ∙ K),
+            take-over (length places) (indexesOf es) x′ (length-map es (λ (e : Element). numberOf (e .index)) ∙ K),
+          ) h
+
+    pub written-accepted : listCheck (take (r .len) (r .bytes)) (take (length places) (r .ends)) (take (length places) (r .marks)) (take (length places) (r .indexes)) ≡ 0
+    written-accepted =
+        parts (λ (b e k i : List ℕ). listCheck b e k i ≡ 0)
+        (accepted-again es (omega (arith, refusals .1, length-map places (elementAt (elements d n m x)))) (chosen-short d n m x (refusals .0) places (refusals .2)))
+
+    pub written-elements : elements (take (r .len) (r .bytes)) (take (length places) (r .ends)) (take (length places) (r .marks)) (take (length places) (r .indexes))
+        ≡ map (elementAt (elements d n m x)) places
+    written-elements = parts (λ (b e k i : List ℕ). elements b e k i ≡ es) (elements-again es)

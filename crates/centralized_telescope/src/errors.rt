@@ -1,0 +1,46 @@
+// The refusals: one table for all calls. A call's answer holds a refusal as the call below gave it, so that a line is written here and in no
+// caller. How a search or a verification ends is no refusal, and stands with those calls.
+ghost use mathlib.Core.Path.{_≡_};
+ghost use Rattle.centralized_telescope.specs.Refusals.{refusalNumber};
+
+// Why a call does no work.
+pub enum Refusal {
+    // set_size is 0 or over its limit
+    SetSize,
+    // another whole number of the settings is over its limit
+    Limit,
+    // q is no number from 0 to 1
+    Probability,
+    // the parts of a lent list don't fit together, or a place isn't one of it
+    Malformed,
+    // too many elements, or too much data in one
+    TooLarge,
+    // the prover's places or bin table
+    WorkspaceShort,
+    // fewer than set_size
+    NotEnoughElements,
+    // the small case's u
+    ProofSize,
+    // the small case's c
+    Completeness,
+    // a lent buffer has no room for what is to be written
+    BufferShort,
+}
+
+// The number of a refusal.
+pub fn refusal_number(k: Refusal) -> u32
+    ensures { λ r. ⌜ r ≡ refusalNumber k ⌝ }
+{
+    match k {
+        Refusal::SetSize => 1,
+        Refusal::Limit => 2,
+        Refusal::Probability => 3,
+        Refusal::Malformed => 4,
+        Refusal::TooLarge => 5,
+        Refusal::WorkspaceShort => 6,
+        Refusal::NotEnoughElements => 10,
+        Refusal::ProofSize => 30,
+        Refusal::Completeness => 31,
+        Refusal::BufferShort => 42,
+    }
+}

@@ -1,0 +1,36 @@
+// Numbers: as places, the lower of two, and out of bytes.
+ghost use mathlib.Core.Path.{_≡_};
+ghost use Prim.Native.Nat.{_+_, _^_, _<_, _≤_, min};
+ghost use lib.ListN.{length, drop};
+ghost use Rattle.sampling.specs.BigEndian.{bigEndian};
+
+// A number of a list, such as an end, as a place.
+pub fn wide(x: u32) -> usize
+    ensures { λ r. ⌜ (r ≡ x) × (r < 4294967296) ⌝ }
+{
+    x as usize
+}
+
+// The lower of two numbers.
+pub fn least(a: usize, b: usize) -> usize
+    ensures { λ r. ⌜ r ≡ min a b ⌝ }
+{
+    if a < b {
+        return a;
+    }
+    b
+}
+
+// The number that k bytes make, the most significant first.
+pub fn number(bytes: &[u8], at: usize, k: usize) -> u64
+    requires { ⌜ (at + k ≤ length (now bytes)) × (k ≤ 8) ⌝ }
+    ensures { λ r. ⌜ (r ≡ bigEndian k (drop at (now (bytes .entry)))) × (r < 256 ^ k) ⌝ }
+{
+    let mut v: u64 = 0;
+    let mut i = 0;
+    while i < k {
+        v = v * 256 + bytes[at + i] as u64;
+        i += 1;
+    }
+    v
+}

@@ -1,0 +1,7 @@
+-- What follows from the definitions. A caller that cites these opens none of them.
+pub mod CommonLaws
+pub mod BigEndianLaws
+pub mod HashLaws
+pub mod FipsExamples
+pub mod HasherLaws
+pub mod SampleLaws
