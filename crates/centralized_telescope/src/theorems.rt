@@ -19,7 +19,7 @@ pub fn all_cases()
     ensures { λ _. ⌜ AllCases ⌝ }
 {}
 
-// The answer of `check_distinct` is yes exactly when at any two places the data differ.
+// On an accepted list the answer of `check_distinct` is yes exactly when at any two places the data differ.
 pub fn distinct_exactly()
     ensures { λ _. ⌜ distinctExactly ⌝ }
 {}

@@ -10,7 +10,7 @@ pub fn say_figure(name: &[u8], n: u64) {
     say_number(n);
 }
 
-// What a number of the specification's table means, whichever call gives it: the one list of words.
+// What a number of the specification's table means, whichever call gives it: the program's one list of words.
 fn say_meaning(number: u64) {
     match number {
         1 => say(b"the set size is not 1 to 32768"),
