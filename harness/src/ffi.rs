@@ -20,7 +20,7 @@ extern "C" {
         set_size: u64, proof_size: u64, max_retries: u64, search_width: u64, dfs_bound: u64, q: f64,
         data: *const u8, data_len: usize, ends: *const u32, ends_len: usize,
         marks: *const u8, marks_len: usize, indexes: *const u64, indexes_len: usize,
-        places: *mut u32, places_len: usize, bins: *mut u32, bins_len: usize, out: *mut u64, out_len: usize,
+        places: *mut u32, places_len: usize, table: *mut u32, table_len: usize, out: *mut u64, out_len: usize,
     ) -> u32;
     fn alba_verify(
         set_size: u64, proof_size: u64, max_retries: u64, search_width: u64, dfs_bound: u64, q: f64,
@@ -159,18 +159,18 @@ pub fn prove(
     s: &Settings,
     list: Listed<u32, u64>,
     places: &mut (impl Place<u32> + ?Sized),
-    bins: &mut (impl Place<u32> + ?Sized),
+    table: &mut (impl Place<u32> + ?Sized),
     out: &mut (impl Place<u64> + ?Sized),
 ) -> u32 {
     let ((data, data_len), (ends, ends_len)) = (parts(list.data), parts(list.ends));
     let ((marks, marks_len), (indexes, indexes_len)) = (parts(list.marks), parts(list.indexes));
-    let ((places, places_len), (bins, bins_len), (out, out_len)) = (places.parts(), bins.parts(), out.parts());
+    let ((places, places_len), (table, table_len), (out, out_len)) = (places.parts(), table.parts(), out.parts());
     // SAFETY: each pointer is valid for its length, those of the list for reads and the last three for reads and writes.
     unsafe {
         alba_prove(
             s.set_size, s.proof_size, s.max_retries, s.search_width, s.dfs_bound, s.q,
             data, data_len, ends, ends_len, marks, marks_len, indexes, indexes_len,
-            places, places_len, bins, bins_len, out, out_len,
+            places, places_len, table, table_len, out, out_len,
         )
     }
 }

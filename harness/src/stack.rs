@@ -29,8 +29,8 @@ fn search(depth: u64) -> Result<(), String> {
     let settings = Settings { set_size: 1, proof_size: depth, max_retries: 1, search_width: 1, dfs_bound: depth + 1, q: 1.0 };
     let mut list = List::default();
     list.push(b"a", Some(7), 0);
-    let (mut places, mut bins, mut out) = (vec![1; depth as usize], [0; 4], [0; 3]);
-    let answer = ffi::prove(&settings, list.lent(), &mut places[..], &mut bins[..], &mut out[..]);
+    let (mut places, mut table, mut out) = (vec![1; depth as usize], [0; 4], [0; 3]);
+    let answer = ffi::prove(&settings, list.lent(), &mut places[..], &mut table[..], &mut out[..]);
     if answer != 0 || out != [1, 0, depth + 1] || places.iter().any(|place| *place != 0) {
         return Err(format!("harness: the search of length {depth} came to {answer}, {out:?}"));
     }

@@ -12,7 +12,7 @@ use Rattle.sampling.specs.BigEndian.{bigEndian}
 use Rattle.sampling.specs.Sample.{isPower, modNotPower, uniform, outside, threshold, bernoulli}
 use Rattle.sampling.specs.laws.SampleLaws.{drawn-of-one}
 use Rattle.centralized_telescope.specs.declared.params.Params.{Params}
-use Rattle.centralized_telescope.specs.Params.{notOneTo, whole, L, floor, ceil, beforeCeil, searchWidth, beforeFloor, dfsBound, proofSizeOut, completenessOut, smallCase, smallSettings}
+use Rattle.centralized_telescope.specs.Params.{notOneTo, asDouble, L, floor, ceil, beforeCeil, searchWidth, beforeFloor, dfsBound, proofSizeOut, completenessOut, smallCase, smallSettings}
 use Rattle.centralized_telescope.specs.laws.SmallCaseLaws.{settings-given}
 use Rattle.centralized_telescope.specs.Elements.{Element, elements}
 use Rattle.centralized_telescope.specs.laws.ElementsLaws.{length-elements}
@@ -76,7 +76,7 @@ abbrev _&_ : {A B : Type 0} → A → B → A × B
 a & b = (a, b)
 
 pub all-cases : AllCases
-unfolding Each cases Holds isNan lt ofInt round add mul div bigEndian isPower modNotPower uniform outside threshold bernoulli notOneTo whole L floor ceil beforeCeil searchWidth beforeFloor dfsBound treeSize
+unfolding Each cases Holds isNan lt ofInt round add mul div bigEndian isPower modNotPower uniform outside threshold bernoulli notOneTo asDouble L floor ceil beforeCeil searchWidth beforeFloor dfsBound treeSize
 all-cases =
     refl
     & drawn-of-one

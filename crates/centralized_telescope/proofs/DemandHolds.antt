@@ -19,8 +19,8 @@ use Rattle.centralized_telescope.specs.Chains.{Try, tryOf, Chain, Elemen
 use Rattle.centralized_telescope.specs.Search.{searched}
 use Rattle.centralized_telescope.specs.Prover.{Proved, served, proved, tableAfter}
 use Rattle.centralized_telescope.specs.Verifier.{verdict}
-use Rattle.centralized_telescope.specs.WrittenOut.{joined, endsFrom, marksOf, indexesOf}
-use Rattle.centralized_telescope.specs.laws.WrittenOutLaws.{Short, accepted-again, elements-again}
+use Rattle.centralized_telescope.specs.ProofList.{joined, endsFrom, marksOf, indexesOf}
+use Rattle.centralized_telescope.specs.laws.ProofListLaws.{Short, accepted-again, elements-again}
 use Rattle.centralized_telescope.specs.Demand3.{Served, OfProver, OfVerifier, OnTheProof, Listed, proofElements, demand3, servedExample}
 use Rattle.centralized_telescope.proofs.ProveAnswers.{served-so}
 use Rattle.centralized_telescope.proofs.VerifierDemand.{verdict-so}

@@ -4,7 +4,7 @@ use Prim.Native.Nat.{ℕ}
 use lib.IntN.{pos}
 use lib.Ieee.{Float, binary64, ofBits, ofInt, round}
 use Rattle.centralized_telescope.specs.declared.params.SmallSettings.{SmallSettings}
-use Rattle.centralized_telescope.specs.Params.{_⊕_, _⊗_, _⊘_, whole, L, floor, ceil, beforeCeil, searchWidth, probability, beforeFloor, dfsBound, smallSettings}
+use Rattle.centralized_telescope.specs.Params.{_⊕_, _⊗_, _⊘_, asDouble, L, floor, ceil, beforeCeil, searchWidth, probability, beforeFloor, dfsBound, smallSettings}
 
 -- ---- the constants, a cast, and what is made of them
 
@@ -32,15 +32,15 @@ codeBeforeFloor u d = ((code 0x4020_0000_0000_0000 ⊗ (one ⊘ ln12)) ⊗ (doub
 -- ---- they are the definitions': each constant's pattern is that of the whole number's double, and of L
 
 pub before-ceil-is : (u : ℕ) → codeBeforeCeil u ≡ beforeCeil u
-unfolding ofBits ofInt round whole L beforeCeil
+unfolding ofBits ofInt round asDouble L beforeCeil
 before-ceil-is u = refl
 
 probability-is : (d : ℕ) → codeProbability d ≡ probability d
-unfolding ofBits ofInt round whole L probability
+unfolding ofBits ofInt round asDouble L probability
 probability-is d = refl
 
 pub before-floor-is : (u d : ℕ) → codeBeforeFloor u d ≡ beforeFloor u d
-unfolding ofBits ofInt round whole L beforeFloor
+unfolding ofBits ofInt round asDouble L beforeFloor
 before-floor-is u d = refl
 
 -- ---- the settings

@@ -5,66 +5,41 @@ use mathlib.Core.List.{List, [], _∷_}
 use Prim.Native.Nat.{ℕ, suc, _+_, _-_, _≤_, _<_}
 use native.Mathlib.Numerals.{add-one}
 use native.Mathlib.Omega.{arith}
-use borrow.Author.Tests.{lt-ltb, le-ltb}
 use lib.Dec.{ltb}
 use lib.ListN.{length, getD, drop, drop-of-length-le}
 use lib.Seq.{drop-cons}
 use Rattle.centralized_telescope.specs.Elements.{endWrong, dataLong}
 
--- ---- ends: `from` is the end before the place i, x the one at i
+or-assoc : (a b r : Bool) → (a || b) || r ≡ a || (b || r)
+or-assoc true b r = refl
+or-assoc false b r = refl
 
-module _ (es : List ℕ) (i from limit x : ℕ) where
-  pub end-falls : i < length es → x ≡ getD es i 0 → x < from → endWrong from limit (drop i es) ≡ true
+-- `from` is the end before the place i, x the one at i, t whether that one is wrong, u what the code found t to be
+
+module _ (es : List ℕ) (i from x : ℕ) (h : i < length es) (e : x ≡ getD es i 0) (t u : Bool) where
+  pub end-next : (limit : ℕ) → t ≡ ltb x from || ltb limit x → t ≡ u → endWrong from limit (drop i es) ≡ u || endWrong x limit (drop (i + 1) es)
   unfolding endWrong
-  end-falls h e t = rw (drop-cons es i 0 h, ← e, lt-ltb x from t)
+  end-next limit q f =
+      rw (add-one i, drop-cons es i 0 h, ← e, ← f, q) (sym (or-assoc (ltb x from) (ltb limit x) (endWrong x limit (drop (suc i) es))))
 
-  pub end-passes : i < length es → x ≡ getD es i 0 → from ≤ x → limit < x → endWrong from limit (drop i es) ≡ true
-  unfolding endWrong
-  end-passes h e s t = rw (drop-cons es i 0 h, ← e, le-ltb x from s, lt-ltb limit x t)
-
-  pub end-behind : i < length es → x ≡ getD es i 0 → from ≤ x → x ≤ limit → endWrong from limit (drop i es) ≡ endWrong x limit (drop (i + 1) es)
-  unfolding endWrong
-  end-behind h e s t = rw (add-one, drop-cons es i 0 h, ← e, le-ltb x from s, le-ltb limit x t)
-
-  pub ends-done : length es ≤ i → endWrong from limit (drop i es) ≡ false
-  unfolding endWrong
-  ends-done h = rw (drop-of-length-le es {i = i} h)
-
--- ---- data
-
-module _ (es : List ℕ) (i from x : ℕ) where
-  pub data-here : i < length es → x ≡ getD es i 0 → 4096 + from < x → dataLong from (drop i es) ≡ true
+  pub data-next : t ≡ ltb 4096 (x - from) → t ≡ u → dataLong from (drop i es) ≡ u || dataLong x (drop (i + 1) es)
   unfolding dataLong
-  data-here h e t = rw (drop-cons es i 0 h, ← e, lt-ltb 4096 (x - from) (omega arith))
+  data-next q f = rw (add-one i, drop-cons es i 0 h, ← e, ← f, q)
 
-  pub data-behind : i < length es → x ≡ getD es i 0 → x ≤ 4096 + from → dataLong from (drop i es) ≡ dataLong x (drop (i + 1) es)
-  unfolding dataLong
-  data-behind h e t = rw (add-one, drop-cons es i 0 h, ← e, le-ltb 4096 (x - from) (omega arith))
-
-  pub data-done : length es ≤ i → dataLong from (drop i es) ≡ false
-  unfolding dataLong
-  data-done h = rw (drop-of-length-le es {i = i} h)
-
--- ---- one place at a time, where what is found so far is kept: before is it, after it with what is found at the place i
-
-or-regroup : (w a b r : Bool) → (w || (a || (b || false))) || r ≡ w || (a || (b || r))
-or-regroup true a b r = refl
-or-regroup false true b r = refl
-or-regroup false false true r = refl
-or-regroup false false false r = refl
-
-module _ (es : List ℕ) (i from x : ℕ) (before here after : Bool) (h : i < length es) (e : x ≡ getD es i 0) (A : after ≡ before || here) where
-  pub end-found : (limit : ℕ) → here ≡ endWrong from limit (x ∷ []) → after || endWrong x limit (drop (i + 1) es) ≡ before || endWrong from limit (drop i es)
+module _ (es : List ℕ) (i from : ℕ) (h : length es ≤ i) where
+  pub ends-done : (limit : ℕ) → endWrong from limit (drop i es) ≡ false
   unfolding endWrong
-  end-found limit q =
-      rw (add-one i, drop-cons es i 0 h, ← e, A, q) (or-regroup before (ltb x from) (ltb limit x) (endWrong x limit (drop (suc i) es)))
+  ends-done limit = rw (drop-of-length-le es {i = i} h)
 
-  pub data-found : here ≡ dataLong from (x ∷ []) → after || dataLong x (drop (i + 1) es) ≡ before || dataLong from (drop i es)
+  pub data-done : dataLong from (drop i es) ≡ false
   unfolding dataLong
-  data-found q =
-      rw (add-one i, drop-cons es i 0 h, ← e, A, q) (or-regroup before false (ltb 4096 (x - from)) (dataLong x (drop (suc i) es)))
+  data-done = rw (drop-of-length-le es {i = i} h)
+
+-- where what is found so far is kept: before is it, after it with what is found here, rest what is found behind, all what is found from here on
+pub one-more : (before here after rest all : Bool) → after ≡ before || here → all ≡ here || rest → after || rest ≡ before || all
+one-more before here after rest all A W = rw (A, W) (or-assoc before here rest)
 
 -- no place is left
-pub none-left : (found rest whole : Bool) → rest ≡ false → found || rest ≡ whole → found ≡ whole
-none-left true rest whole e f = f
-none-left false rest whole e f = sym e ∙ f
+pub none-left : (found rest all : Bool) → rest ≡ false → found || rest ≡ all → found ≡ all
+none-left true rest all e f = f
+none-left false rest all e f = sym e ∙ f

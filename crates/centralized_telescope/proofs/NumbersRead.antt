@@ -1,33 +1,25 @@
 -- Numbers in bytes, read one after the other: how many there are, each of them, and how far they go.
 use mathlib.Core.Path.{_≡_, refl, ap, sym, _∙_}
 use mathlib.Core.List.{List}
-use Prim.Native.Nat.{ℕ, zero, suc, _+_, _*_, _^_, _≤_, _<_}
-use native.Mathlib.Nat.{pow-suc, pow-le-pow-right, mul-zero, mul-suc, add-comm}
+use Prim.Native.Nat.{ℕ, zero, suc, _+_, _*_, _^_, _≤_, _<_, min}
+use native.Mathlib.Nat.{mul-zero, mul-suc, add-comm}
 use native.Mathlib.Numerals.{add-one}
 use native.Mathlib.Omega.{arith}
 use lib.ListN.{length, take, drop, getD, set}
-use lib.Seq.{getD-drop, drop-drop, take-all, take-suc}
+use lib.Seq.{drop-drop, take-all, take-suc}
 use Rattle.sampling.specs.laws.CommonLaws.{filled-more}
 use Rattle.sampling.specs.BigEndian.{bigEndian}
+use Rattle.sampling.specs.laws.BigEndianLaws.{part-size, part-read}
 use Rattle.centralized_telescope.specs.Exports.{numbersIn}
 
--- ---- one number: v is what its first i bytes make, b the byte behind them
+-- ---- one number: v is read from the n bytes at `at`
 
-module _ (v i : ℕ) (below : v < 256 ^ i) where
-  -- of at most 8 bytes, so that it stays within 64 bits
-  pub room-for-byte : i < 8 → v * 256 + 255 < 18446744073709551616
-  room-for-byte l = omega (arith, pow-suc 256 i, pow-le-pow-right {n = 256} (omega arith) {i = suc i} {j = 8} (omega arith))
-
-  pub byte-added : (b : ℕ) → b < 256 → v * 256 + b < 256 ^ (i + 1)
-  byte-added b l = rw (add-one i, pow-suc 256 i) (omega arith)
-
-pub none-read : (bytes : List ℕ) (at : ℕ) → 0 ≡ bigEndian 0 (drop at bytes)
-unfolding bigEndian
-none-read bytes at = refl
-
-pub byte-read : (bytes : List ℕ) (at i v : ℕ) → v ≡ bigEndian i (drop at bytes) → v * 256 + getD bytes (at + i) 0 ≡ bigEndian (i + 1) (drop at bytes)
-unfolding bigEndian
-byte-read bytes at i v e = rw (add-one i, e, getD-drop at bytes i 0)
+pub part-number : (bytes : List ℕ) (at k n v : ℕ) → at + k ≤ length bytes → k ≤ 8 → n ≡ k
+    → (v ≡ bigEndian (min (length (take n (drop at bytes))) 8) (take n (drop at bytes))) × (v < 256 ^ min (length (take n (drop at bytes))) 8)
+    → (v ≡ bigEndian k (drop at bytes)) × (v < 256 ^ k)
+part-number bytes at k n v h e N r =
+    let q = rw N at r in
+    (q .0 ∙ part-read bytes at k h e, rw (part-size bytes at k h e) at (q .1))
 
 -- ---- all of them
 

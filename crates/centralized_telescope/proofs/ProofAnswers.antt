@@ -12,17 +12,18 @@ use Rattle.centralized_telescope.specs.Refusals.{refusalNumber}
 use Rattle.centralized_telescope.specs.laws.RefusalsLaws.{refusal-number}
 use Rattle.centralized_telescope.specs.Elements.{listCheck}
 use Rattle.centralized_telescope.specs.laws.ListsLaws.{number-passed, number-met, second-met, two-passed, number-last}
-use Rattle.centralized_telescope.specs.WrittenOut.{joined, chosen, placeOut, WrittenOut, unwritten, written, buffersShort, writeRefusal, proofWritten}
+use Rattle.centralized_telescope.specs.declared.proof_list.Written.the-variants as w
+use Rattle.centralized_telescope.specs.ProofList.{joined, chosen, placeOut, ProofList, listOver, buffersShort, writeRefusal, proofList, proofListOf}
 use Rattle.centralized_telescope.specs.inner.ListReading.{dataOf}
-use Rattle.centralized_telescope.specs.laws.WrittenOutLaws.{data-joined}
+use Rattle.centralized_telescope.specs.laws.ProofListLaws.{data-joined}
 
 -- places, a list, and the lent buffers
 module _ (ps d n m x b e k i : List ℕ) where
-  refused : (r : Refusal) → writeRefusal ps d n m x b e k i ≡ refusalNumber r → unwritten (refusalNumber r) b e k i ≡ proofWritten ps d n m x b e k i
-  unfolding proofWritten
+  refused : (r : Refusal) → writeRefusal ps d n m x b e k i ≡ refusalNumber r → proofListOf (w.Refused r) b e k i ≡ proofList ps d n m x b e k i
+  unfolding proofList
   refused r w = rw (w, ne-eqb (refusalNumber r) 0 (refusal-number r))
 
-  pub list-refused : (r : Refusal) → listCheck d n m x ≡ refusalNumber r → unwritten (refusalNumber r) b e k i ≡ proofWritten ps d n m x b e k i
+  pub list-refused : (r : Refusal) → listCheck d n m x ≡ refusalNumber r → proofListOf (w.Refused r) b e k i ≡ proofList ps d n m x b e k i
   unfolding writeRefusal
   list-refused r l = refused r (number-met (listCheck d n m x) _ (refusalNumber r) l (refusal-number r))
 
@@ -32,7 +33,7 @@ module _ (ps d n m x b e k i : List ℕ) where
     many-met t =
         second-met (listCheck d n m x) (cond (ltb 65536 (length ps)) 5 0) _ 5 A (rw (lt-ltb 65536 (length ps) t)) (refusal-number refusal.TooLarge)
 
-    pub too-many : 65536 < length ps → unwritten 5 b e k i ≡ proofWritten ps d n m x b e k i
+    pub too-many : 65536 < length ps → proofListOf (w.Refused refusal.TooLarge) b e k i ≡ proofList ps d n m x b e k i
     too-many t = refused refusal.TooLarge (many-met t)
 
     module _ (F : length ps ≤ 65536) where
@@ -42,7 +43,7 @@ module _ (ps d n m x b e k i : List ℕ) where
           two-passed (listCheck d n m x) (cond (ltb 65536 (length ps)) 5 0) _ A (rw (le-ltb 65536 (length ps) F))
           ∙ number-met (cond (placeOut (length n) ps) 4 0) _ 4 (rw t) (refusal-number refusal.Malformed)
 
-      pub place-past : placeOut (length n) ps ≡ true → unwritten 4 b e k i ≡ proofWritten ps d n m x b e k i
+      pub place-past : placeOut (length n) ps ≡ true → proofListOf (w.Refused refusal.Malformed) b e k i ≡ proofList ps d n m x b e k i
       place-past t = refused refusal.Malformed (place-met t)
 
       module _ (P : placeOut (length n) ps ≡ false) where
@@ -61,9 +62,9 @@ module _ (ps d n m x b e k i : List ℕ) where
             ∙ rw s (number-last (cond u 42 0))
 
         module _ (t : Bool) (s : t ≡ short (length (dataOf d n ps))) where
-          pub too-short : t ≡ true → unwritten 42 b e k i ≡ proofWritten ps d n m x b e k i
+          pub too-short : t ≡ true → proofListOf (w.Refused refusal.BufferShort) b e k i ≡ proofList ps d n m x b e k i
           too-short h = refused refusal.BufferShort (last-met true (same-size t true s h))
 
-          pub all-written : t ≡ false → (w : WrittenOut) → w ≡ written (chosen ps d n m x) b e k i → w ≡ proofWritten ps d n m x b e k i
-          unfolding proofWritten
+          pub all-written : t ≡ false → (w : ProofList) → w ≡ listOver (chosen ps d n m x) b e k i → w ≡ proofList ps d n m x b e k i
+          unfolding proofList
           all-written h w W = rw (last-met false (same-size t false s h)) W

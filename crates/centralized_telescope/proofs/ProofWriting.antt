@@ -11,12 +11,13 @@ use lib.ListN.{length, getD, take, drop, set, length-append, length-drop, length
 use lib.Seq.{drop-cons, length-take-le, take-at, drop-append-add, drop-drop, take-all}
 use Rattle.centralized_telescope.specs.Elements.{Element, elementAt, elements, indexOf, markOf, numberOf, listCheck}
 use Rattle.centralized_telescope.specs.laws.ElementsLaws.{data-there, data-short, index-there}
-use Rattle.centralized_telescope.specs.WrittenOut.{placeOut, joined, endsFrom, marksOf, indexesOf, chosen, WrittenOut, wrote, written, buffersShort}
+use Rattle.centralized_telescope.specs.declared.proof_list.Written.the-variants as w
+use Rattle.centralized_telescope.specs.ProofList.{placeOut, joined, endsFrom, marksOf, indexesOf, chosen, ProofList, listOver, proofListOf, buffersShort}
 use Rattle.centralized_telescope.specs.laws.TestLaws.{neither}
 use Rattle.centralized_telescope.specs.Lists.{over}
 use Rattle.centralized_telescope.specs.inner.ListReading.{dataAt, indexAt, dataOf}
 use Rattle.centralized_telescope.specs.laws.ListsLaws.{map-more, over-set}
-use Rattle.centralized_telescope.specs.laws.WrittenOutLaws.{length-ends, place-within}
+use Rattle.centralized_telescope.specs.laws.ProofListLaws.{length-ends, place-within}
 
 -- ---- an index as it is lent
 
@@ -114,52 +115,52 @@ over-append xs ys s =
 set-more : (k v u : ℕ) (n′ n xs ys : List ℕ) → n′ ≡ over xs n → length xs ≡ k → k < length n → v ≡ u → ys ≡ xs ++ (u ∷ []) → set n′ k v ≡ over ys n
 set-more k v u n′ n xs ys B K N U Y = rw (B, U, Y) (over-set k u xs n K N)
 
-same : {k k′ : ℕ} {b b′ n n′ m m′ x x′ : List ℕ} → k ≡ k′ → b ≡ b′ → n ≡ n′ → m ≡ m′ → x ≡ x′ → wrote k b n m x ≡ wrote k′ b′ n′ m′ x′
+same : {k k′ : ℕ} {b b′ n n′ m m′ x x′ : List ℕ} → k ≡ k′ → b ≡ b′ → n ≡ n′ → m ≡ m′ → x ≡ x′ → proofListOf (w.List k) b n m x ≡ proofListOf (w.List k′) b′ n′ m′ x′
 same K B N M X = rw (K, B, N, M, X)
 
 module _ (es : List Element) (e : Element) (b n m x : List ℕ) where
   -- with those before it written, and its own data, mark and index in hand
-  written-more : (k used : ℕ) (b′ n′ m′ x′ own t : List ℕ) (mark number : ℕ) → wrote used b′ n′ m′ x′ ≡ written es b n m x
+  written-more : (k used : ℕ) (b′ n′ m′ x′ own t : List ℕ) (mark number : ℕ) → proofListOf (w.List used) b′ n′ m′ x′ ≡ listOver es b n m x
       → length es ≡ k → k < length n → k < length m → k < length x
       → own ≡ e .bytes → mark ≡ markOf (e .index) → number ≡ numberOf (e .index)
       → t ≡ take used b′ ++ (own ++ drop (used + length own) b′)
-      → wrote (used + length own) t (set n′ k (used + length own)) (set m′ k mark) (set x′ k number) ≡ written (es ++ (e ∷ [])) b n m x
-  unfolding written
+      → proofListOf (w.List (used + length own)) t (set n′ k (used + length own)) (set m′ k mark) (set x′ k number) ≡ listOver (es ++ (e ∷ [])) b n m x
+  unfolding listOver
   written-more k used b′ n′ m′ x′ own t mark number W K N M X O A I C =
-      let U : used ≡ length (joined es) = ap (λ (w : WrittenOut). w .len) W in
+      let U : used ≡ length (joined es) = ap (λ (w : ProofList). w .len) W in
       let l : used + length own ≡ length (joined es) + length (e .bytes) = omega (arith, U, ap length O) in
       same
       (rw (joined-more es e, length-append (joined es) (e .bytes)) l)
-      (C ∙ rw (U, ap (λ (w : WrittenOut). w .bytes) W, O, over-append (joined es) (e .bytes) b, joined-more es e))
+      (C ∙ rw (U, ap (λ (w : ProofList). w .bytes) W, O, over-append (joined es) (e .bytes) b, joined-more es e))
       (set-more k (used + length own) (0 + length (joined es) + length (e .bytes)) n′ n (endsFrom 0 es) (endsFrom 0 (es ++ (e ∷ [])))
-      (ap (λ (w : WrittenOut). w .ends) W) (length-ends 0 es ∙ K) N (omega arith) (ends-more 0 es e))
+      (ap (λ (w : ProofList). w .ends) W) (length-ends 0 es ∙ K) N (omega arith) (ends-more 0 es e))
       (set-more k mark (markOf (e .index)) m′ m (marksOf es) (marksOf (es ++ (e ∷ [])))
-      (ap (λ (w : WrittenOut). w .marks) W) (length-map es (λ (a : Element). markOf (a .index)) ∙ K) M A (map-append (λ (a : Element). markOf (a .index)) es (e ∷ [])))
+      (ap (λ (w : ProofList). w .marks) W) (length-map es (λ (a : Element). markOf (a .index)) ∙ K) M A (map-append (λ (a : Element). markOf (a .index)) es (e ∷ [])))
       (set-more k number (numberOf (e .index)) x′ x (indexesOf es) (indexesOf (es ++ (e ∷ [])))
-      (ap (λ (w : WrittenOut). w .indexes) W) (length-map es (λ (a : Element). numberOf (a .index)) ∙ K) X I (map-append (λ (a : Element). numberOf (a .index)) es (e ∷ [])))
+      (ap (λ (w : ProofList). w .indexes) W) (length-map es (λ (a : Element). numberOf (a .index)) ∙ K) X I (map-append (λ (a : Element). numberOf (a .index)) es (e ∷ [])))
 
 -- ---- none is written yet, and one turn
 
-pub none-written : (b n m x : List ℕ) → wrote 0 b n m x ≡ written [] b n m x
-unfolding written joined endsFrom
+pub none-written : (b n m x : List ℕ) → proofListOf (w.List 0) b n m x ≡ listOver [] b n m x
+unfolding listOver joined endsFrom
 none-written b n m x = refl
 
 pub one-written : (f : ℕ → Element) (ps : List ℕ) (i : ℕ) → i < length ps
     → (b n m x : List ℕ) (used : ℕ) (b′ n′ m′ x′ own t : List ℕ) (mark number : ℕ)
-    → wrote used b′ n′ m′ x′ ≡ written (map f (take i ps)) b n m x
+    → proofListOf (w.List used) b′ n′ m′ x′ ≡ listOver (map f (take i ps)) b n m x
     → i < length n → i < length m → i < length x
     → own ≡ f (getD ps i 0) .bytes → mark ≡ markOf (f (getD ps i 0) .index) → number ≡ numberOf (f (getD ps i 0) .index)
     → t ≡ take used b′ ++ (own ++ drop (used + length own) b′)
-    → wrote (used + length own) t (set n′ i (used + length own)) (set m′ i mark) (set x′ i number) ≡ written (map f (take (i + 1) ps)) b n m x
+    → proofListOf (w.List (used + length own)) t (set n′ i (used + length own)) (set m′ i mark) (set x′ i number) ≡ listOver (map f (take (i + 1) ps)) b n m x
 one-written f ps i h b n m x used b′ n′ m′ x′ own t mark number W N M X O A I C =
     let K : length (map f (take i ps)) ≡ i = length-map (take i ps) f ∙ length-take-le i ps (omega arith) in
     rw (map-more f ps i 0 h) (written-more (map f (take i ps)) (f (getD ps i 0)) b n m x i used b′ n′ m′ x′ own t mark number W K N M X O A I C)
 
 -- ---- the element of a turn
 
-pub used-is : (es : List Element) (b n m x : List ℕ) (used : ℕ) (b′ n′ m′ x′ : List ℕ) → wrote used b′ n′ m′ x′ ≡ written es b n m x → used ≡ length (joined es)
-unfolding written
-used-is es b n m x used b′ n′ m′ x′ W = ap (λ (w : WrittenOut). w .len) W
+pub used-is : (es : List Element) (b n m x : List ℕ) (used : ℕ) (b′ n′ m′ x′ : List ℕ) → proofListOf (w.List used) b′ n′ m′ x′ ≡ listOver es b n m x → used ≡ length (joined es)
+unfolding listOver
+used-is es b n m x used b′ n′ m′ x′ W = ap (λ (w : ProofList). w .len) W
 
 module _ (d n m x : List ℕ) (A : listCheck d n m x ≡ 0) (ps : List ℕ) (P : placeOut (length n) ps ≡ false) (i : ℕ) (h : i < length ps) where
   pub in-list : getD ps i 0 < length n

@@ -10,7 +10,7 @@ use native.Mathlib.Omega.{arith}
 use borrow.Author.Tests.{eq-eqb, eqb-true, le-leb, leb-true}
 use lib.Dec.{eqb, leb}
 use lib.ListN.{length}
-use Rattle.centralized_telescope.specs.Lists.{Pairwise, firstOf}
+use Rattle.centralized_telescope.specs.Lists.{Ascending, firstOf}
 use Rattle.centralized_telescope.specs.laws.ListsLaws.{first-none, first-some, prefixTo, length-prefix, prefix-among, prefix-pairwise, prefix-before, before-prefix, no-longer}
 use Rattle.centralized_telescope.specs.Rounds.{saysYes}
 use Rattle.centralized_telescope.specs.Chains.{Try, Chain, Passes, Before}
@@ -75,7 +75,7 @@ module _ (T : Try) where
       before-prefix (passing T) Before before-asymmetric (existing T) (in-order T) c (exists-listed T c (u .0))
       (λ d m e. u .1 d (listed-passes d m e))
 
-  sorted-up-to : Pairwise Before upTo
+  sorted-up-to : Ascending Before upTo
   sorted-up-to = prefix-pairwise (passing T) Before (existing T) (in-order T)
 
   length-up-to : length upTo ≡ K T

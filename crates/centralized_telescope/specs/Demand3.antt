@@ -11,7 +11,7 @@ use lib.ListN.{length, take, drop, replicate}
 use Rattle.centralized_telescope.specs.declared.params.Params.{Params}
 use Rattle.centralized_telescope.specs.Params.{checked}
 use Rattle.centralized_telescope.specs.Elements.{Element, elements, elementAt, listCheck}
-use Rattle.centralized_telescope.specs.Lists.{Pairwise}
+use Rattle.centralized_telescope.specs.Lists.{Ascending}
 use Rattle.centralized_telescope.specs.Chains.{Try, tryOf, Chain, elementsOf, Exists, Passes, Before, ElementsPass}
 use Rattle.centralized_telescope.specs.Prover.{Proved, proved}
 use Rattle.centralized_telescope.specs.Verifier.{verdict}
@@ -20,7 +20,7 @@ use Rattle.centralized_telescope.specs.Verifier.{verdict}
 
 -- there are k chains of a kind: a list in the search's order, where none stands twice, holds exactly those
 abbrev pub Number : (Chain → Type 0) → ℕ → Type 0
-Number Kind k = (cs : List Chain) × Pairwise Before cs × ((c : Chain) → List·Memᴰ c cs ↔ Kind c) × (length cs ≡ k)
+Number Kind k = (cs : List Chain) × Ascending Before cs × ((c : Chain) → List·Memᴰ c cs ↔ Kind c) × (length cs ≡ k)
 
 -- c is d or comes before it
 abbrev pub UpTo : Chain → Chain → Type 0

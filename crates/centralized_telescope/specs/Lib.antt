@@ -12,7 +12,7 @@ pub mod Search
 pub mod Prover
 pub mod Verifier
 pub mod Exports
-pub mod WrittenOut
+pub mod ProofList
 pub mod Demand3
 pub mod AllCases
 pub mod laws

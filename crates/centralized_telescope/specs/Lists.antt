@@ -7,9 +7,9 @@ use lib.Dec.{eqb}
 use lib.ListN.{length, drop}
 
 -- each stands in the relation to all after it
-unfoldable pub Pairwise : {A : Type 0} → (A → A → Type 0) → List A → Type 0
-Pairwise R [] = Unit {0}
-Pairwise {A} R (x ∷ xs) = ((y : A) → List·Memᴰ y xs → R x y) × Pairwise R xs
+unfoldable pub Ascending : {A : Type 0} → (A → A → Type 0) → List A → Type 0
+Ascending R [] = Unit {0}
+Ascending {A} R (x ∷ xs) = ((y : A) → List·Memᴰ y xs → R x y) × Ascending R xs
 
 -- each is as said
 unfoldable pub Each : {A : Type 0} → (A → Type 0) → List A → Type 0

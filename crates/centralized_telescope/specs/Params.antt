@@ -53,8 +53,8 @@ abbrev pub _⊘_ : Float → Float → Float
 _⊘_ x y = div binary64 x y
 
 -- the double of a whole number
-unfoldable pub whole : ℕ → Float
-whole n = ofInt binary64 (pos n)
+unfoldable pub asDouble : ℕ → Float
+asDouble n = ofInt binary64 (pos n)
 
 -- 01, Small-case settings, L: its decimals of ln 12, rounded to a double
 unfoldable pub L : Float
@@ -76,18 +76,18 @@ ceil (fin s m e) = cond (eqb (m * up e % down e) 0) (m * up e / down e) (m * up 
 
 -- 01, Small-case settings, d: what is rounded up, and search_width, the result
 unfoldable pub beforeCeil : ℕ → Float
-beforeCeil u = (whole 32 ⊗ L) ⊗ whole u
+beforeCeil u = (asDouble 32 ⊗ L) ⊗ asDouble u
 
 unfoldable pub searchWidth : ℕ → ℕ
 searchWidth u = ceil (beforeCeil u)
 
 -- 01, Small-case settings, q: by L and d
 unfoldable pub probability : ℕ → Float
-probability d = (whole 2 ⊗ L) ⊗ (whole 1 ⊘ whole d)
+probability d = (asDouble 2 ⊗ L) ⊗ (asDouble 1 ⊘ asDouble d)
 
 -- 01, Small-case settings, dfs_bound: what is rounded down, and the result
 unfoldable pub beforeFloor : ℕ → ℕ → Float
-beforeFloor u d = ((whole 8 ⊗ (whole 1 ⊘ L)) ⊗ (whole u ⊕ whole 1)) ⊗ whole d
+beforeFloor u d = ((asDouble 8 ⊗ (asDouble 1 ⊘ L)) ⊗ (asDouble u ⊕ asDouble 1)) ⊗ asDouble d
 
 unfoldable pub dfsBound : ℕ → ℕ → ℕ
 dfsBound u d = floor (beforeFloor u d)

@@ -15,4 +15,4 @@ pub mod SearchLaws
 pub mod WalkLaws
 pub mod OneBinLaws
 pub mod VerifierLaws
-pub mod WrittenOutLaws
+pub mod ProofListLaws

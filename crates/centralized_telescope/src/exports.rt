@@ -8,21 +8,22 @@ ghost use Rattle.centralized_telescope.specs.Elements.{elements, endWron
 ghost use Rattle.centralized_telescope.specs.Verifier.{judged, verdictNumber};
 ghost use Rattle.centralized_telescope.specs.Exports.{settingsOf, numbersOf, exportedVerdict};
 use crate::errors::Refusal;
-use crate::errors::refusal_number;
 use crate::numbers::number;
+use crate::numbers::wide;
 use crate::params::Checked;
 use crate::params::Params;
 use crate::params::check_params;
 use crate::proof::Verdict;
 use crate::proof::judge;
+use crate::proof::verdict_number;
 use crate::round::RetryCounter;
 use crate::round::SearchCounter;
 use crate::types::ListCheck;
+use crate::types::is_data_long;
+use crate::types::is_end_wrong;
 use crate::types::list_answer;
-use crate::types::some_data_long;
-use crate::types::some_end_wrong;
 use crate::types::some_mark_over;
-use sampling::Words;
+use sampling::U128;
 
 // What the ends in bytes are found to be.
 pub struct EndsFound {
@@ -62,15 +63,14 @@ fn either(a: bool, b: bool) -> bool
 fn find_in_ends(ends: &[u8], limit: usize) -> EndsFound
     ensures { λ r. ⌜ (r .wrong ≡ endWrong 0 limit (numbersOf 4 (now (ends .entry)))) × (r .long ≡ dataLong 0 (numbersOf 4 (now (ends .entry)))) ⌝ }
 {
-    let mut from: u32 = 0;
+    let mut from: usize = 0;
     let mut wrong = false;
     let mut long = false;
     let mut i = 0;
     while i < ends.len() / 4 {
-        let end = end_at(ends, i);
-        let one = [end];
-        wrong = either(wrong, some_end_wrong(&one, from, limit));
-        long = either(long, some_data_long(&one, from));
+        let end = wide(end_at(ends, i));
+        wrong = either(wrong, is_end_wrong(from, end, limit));
+        long = either(long, is_data_long(from, end));
         from = end;
         i += 1;
     }
@@ -120,7 +120,7 @@ fn read_indexes(indexes: &[u8], out: &mut [u64])
 // The judgement on an accepted list of at most 1,024 elements.
 fn judge_bytes(
     p: Params,
-    x: Words,
+    x: U128,
     retry: RetryCounter,
     search: SearchCounter,
     data: &[u8],
@@ -182,19 +182,6 @@ fn verify_bytes(
         return Verdict::IncorrectNumberElements;
     }
     judge_bytes(p, x, retry, search, data, ends, marks, indexes)
-}
-
-// The number of a verdict.
-fn verdict_number(v: Verdict) -> u32
-    ensures { λ r. ⌜ r ≡ verdictNumber v ⌝ }
-{
-    match v {
-        Verdict::Accepted => 0,
-        Verdict::IncorrectNumberElements => 20,
-        Verdict::InvalidParameters => 21,
-        Verdict::InvalidProof => 22,
-        Verdict::Refused(k) => refusal_number(k),
-    }
 }
 
 // 0: the proof is accepted; else the number of the first refusal that it meets. Ends take 4 bytes each and indexes 8, the highest

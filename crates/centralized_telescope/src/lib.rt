@@ -25,6 +25,8 @@ pub use params::check_params;
 pub use params::param_small_case;
 pub use proof::ProofSearch;
 pub use proof::Verdict;
+pub use proof::proof_search_number;
+pub use proof::verdict_number;
 pub use proof_list::Written;
 pub use proof_list::write_proof;
 pub use round::RetryCounter;

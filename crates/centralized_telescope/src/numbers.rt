@@ -3,6 +3,7 @@ ghost use mathlib.Core.Path.{_≡_};
 ghost use Prim.Native.Nat.{_+_, _^_, _<_, _≤_, min};
 ghost use lib.ListN.{length, drop};
 ghost use Rattle.sampling.specs.BigEndian.{bigEndian};
+use sampling::number_of;
 
 // A number of a list, such as an end, as a place.
 pub fn wide(x: u32) -> usize
@@ -21,16 +22,11 @@ pub fn least(a: usize, b: usize) -> usize
     b
 }
 
-// The number that k bytes make, the most significant first.
+// The number that the k bytes from `at` on make, the most significant first.
 pub fn number(bytes: &[u8], at: usize, k: usize) -> u64
     requires { ⌜ (at + k ≤ length (now bytes)) × (k ≤ 8) ⌝ }
     ensures { λ r. ⌜ (r ≡ bigEndian k (drop at (now (bytes .entry)))) × (r < 256 ^ k) ⌝ }
 {
-    let mut v: u64 = 0;
-    let mut i = 0;
-    while i < k {
-        v = v * 256 + bytes[at + i] as u64;
-        i += 1;
-    }
-    v
+    let end = at + k;
+    number_of(&bytes[at..end])
 }

@@ -2,7 +2,7 @@
 
 use crate::errors::Refusal;
 use sampling::Threshold;
-use sampling::Words;
+use sampling::U128;
 ghost use mathlib.Core.Path.{_≡_};
 ghost use mathlib.Core.Bool.{false};
 ghost use Prim.Native.Nat.{_^_};
@@ -21,7 +21,7 @@ pub struct Params {
 
 // What the check of the settings answers. Lawful settings come with the threshold of their q, so that no caller works it out again.
 pub enum Checked {
-    Lawful(Words),
+    Lawful(U128),
     Refused(Refusal),
 }
 

@@ -1,6 +1,6 @@
 // The prover's search: a try's chains are walked in their order, and tries are made until one finds. Then the verifier's judgement.
 ghost use mathlib.Core.Path.{_≡_};
-ghost use mathlib.Core.List.{_++_};
+ghost use mathlib.Core.List.{[], _++_};
 ghost use Prim.Native.Nat.{_+_, _*_, _<_, _≤_};
 ghost use lib.ListN.{length, take, drop};
 ghost use lib.Seq.{slice};
@@ -12,6 +12,7 @@ ghost use Rattle.centralized_telescope.specs.inner.Visit.{tryOn, visited
 ghost use Rattle.centralized_telescope.specs.Verifier.{lastHash, yesOn, judged, verdictNumber};
 use crate::bins::fill_table;
 use crate::errors::Refusal;
+use crate::errors::refusal_number;
 use crate::numbers::wide;
 use crate::params::Params;
 use crate::round::Id;
@@ -22,7 +23,7 @@ use crate::round::next_hash;
 use crate::round::proof_hash;
 use crate::round::round_id;
 use crate::round::start_hash;
-use sampling::Words;
+use sampling::U128;
 
 // ---- The search
 
@@ -53,7 +54,7 @@ fn write_places(path: [u32; 1024], n: usize, places: &mut [u32])
 // A chain that exists, by its last round: at full length it passes or doesn't, before that its bin is walked.
 fn visit(
     p: Params,
-    x: Words,
+    x: U128,
     retry: RetryCounter,
     search: SearchCounter,
     data: &[u8],
@@ -107,7 +108,7 @@ fn visit(
 // written here, where the path is whole, and not by the visit: that keeps one path to a level of the stack.
 fn walk(
     p: Params,
-    x: Words,
+    x: U128,
     retry: RetryCounter,
     search: SearchCounter,
     data: &[u8],
@@ -182,7 +183,7 @@ fn walk(
 // One try: its chains, search counter by search counter, over the bin table of its retry counter.
 fn prove_index(
     p: Params,
-    x: Words,
+    x: U128,
     retry: RetryCounter,
     data: &[u8],
     ends: &[u32],
@@ -248,10 +249,22 @@ pub enum ProofSearch {
     Refused(Refusal),
 }
 
+// The number of an answer of the prover.
+pub fn proof_search_number(answer: ProofSearch) -> u32
+    ensures { λ r. ⌜ r ≡ provedBy answer [] [] .number ⌝ }
+{
+    match answer {
+        ProofSearch::Found(_, _, _) => 0,
+        ProofSearch::NotFoundInBounds(_) => 11,
+        ProofSearch::NotFound(_) => 12,
+        ProofSearch::Refused(k) => refusal_number(k),
+    }
+}
+
 // The tries, R from 1 to max_retries, up to the first find.
 pub fn prove_routine(
     p: Params,
-    x: Words,
+    x: U128,
     data: &[u8],
     ends: &[u32],
     marks: &[u8],
@@ -307,10 +320,23 @@ pub enum Verdict {
     Refused(Refusal),
 }
 
+// The number of an answer of the verifier.
+pub fn verdict_number(v: Verdict) -> u32
+    ensures { λ r. ⌜ r ≡ verdictNumber v ⌝ }
+{
+    match v {
+        Verdict::Accepted => 0,
+        Verdict::IncorrectNumberElements => 20,
+        Verdict::InvalidParameters => 21,
+        Verdict::InvalidProof => 22,
+        Verdict::Refused(k) => refusal_number(k),
+    }
+}
+
 // Whether the chain of an accepted list's elements, from the first to the last, exists and its last hash says yes.
 fn chain_passes(
     p: Params,
-    x: Words,
+    x: U128,
     retry: RetryCounter,
     search: SearchCounter,
     data: &[u8],
@@ -352,7 +378,7 @@ fn chain_passes(
 // else by the chain.
 pub fn judge(
     p: Params,
-    x: Words,
+    x: U128,
     retry: RetryCounter,
     search: SearchCounter,
     data: &[u8],

@@ -7,7 +7,7 @@ ghost use Prim.Native.Nat.{_+_, _<_, _≤_};
 ghost use lib.Dec.{ltb};
 ghost use lib.ListN.{length, take, drop};
 ghost use Rattle.centralized_telescope.specs.Elements.{endWrong, listCheck};
-ghost use Rattle.centralized_telescope.specs.WrittenOut.{placeOut, joined, chosen, buffersShort, wrote, written, proofWritten, outcome};
+ghost use Rattle.centralized_telescope.specs.ProofList.{placeOut, joined, chosen, listOver, buffersShort, proofList, proofListOf};
 ghost use Rattle.centralized_telescope.specs.inner.ListReading.{dataOf};
 use crate::errors::Refusal;
 use crate::types::ListCheck;
@@ -89,7 +89,7 @@ fn copy_at(own: &[u8], used: usize, out: &mut [u8])
     bytes::copy(own, &mut out[used..]);
 }
 
-// Writes the elements at the places into buffers that have room for them, and says how many data bytes that took.
+// Writes the elements at the places into buffers that have room for them.
 fn write_elements(
     places: &[u32],
     data: &[u8],
@@ -100,12 +100,12 @@ fn write_elements(
     out_ends: &mut [u32],
     out_marks: &mut [u8],
     out_indexes: &mut [u64],
-) -> usize
+) -> Written
     requires { ⌜ (listCheck (now «data») (now ends) (now marks) (now indexes) ≡ 0) × (length (now places) ≤ 65536) × (placeOut (length (now ends)) (now places) ≡ false)
         × (buffersShort (length (now places)) (length (joined (chosen (now places) (now «data») (now ends) (now marks) (now indexes))))
         (length (now «out_data»)) (length (now «out_ends»)) (length (now «out_marks»)) (length (now «out_indexes»)) ≡ false) ⌝ }
-    ensures { λ r. ⌜ wrote r (now («out_data» .exit)) (now («out_ends» .exit)) (now («out_marks» .exit)) (now («out_indexes» .exit))
-        ≡ written (chosen (now (places .entry)) (now («data» .entry)) (now (ends .entry)) (now (marks .entry)) (now (indexes .entry)))
+    ensures { λ r. ⌜ proofListOf r (now («out_data» .exit)) (now («out_ends» .exit)) (now («out_marks» .exit)) (now («out_indexes» .exit))
+        ≡ listOver (chosen (now (places .entry)) (now («data» .entry)) (now (ends .entry)) (now (marks .entry)) (now (indexes .entry)))
         (now («out_data» .entry)) (now («out_ends» .entry)) (now («out_marks» .entry)) (now («out_indexes» .entry)) ⌝ }
 {
     let mut used: usize = 0;
@@ -121,11 +121,12 @@ fn write_elements(
         out_indexes[i] = index.number;
         i += 1;
     }
-    used
+    Written::List(used)
 }
 
-// The proof of an accepted list.
-fn write_accepted(
+// The elements at the places, written out as a list into the first numbers of the four lent buffers. What is written is accepted as a
+// list, and its elements are those at the places. A refusal leaves the buffers as they were.
+pub fn write_proof(
     places: &[u32],
     data: &[u8],
     ends: &[u32],
@@ -136,11 +137,16 @@ fn write_accepted(
     out_marks: &mut [u8],
     out_indexes: &mut [u64],
 ) -> Written
-    requires { ⌜ listCheck (now «data») (now ends) (now marks) (now indexes) ≡ 0 ⌝ }
-    ensures { λ r. ⌜ outcome r (now («out_data» .exit)) (now («out_ends» .exit)) (now («out_marks» .exit)) (now («out_indexes» .exit))
-        ≡ proofWritten (now (places .entry)) (now («data» .entry)) (now (ends .entry)) (now (marks .entry)) (now (indexes .entry))
+    ensures { λ r. ⌜ proofListOf r (now («out_data» .exit)) (now («out_ends» .exit)) (now («out_marks» .exit)) (now («out_indexes» .exit))
+        ≡ proofList (now (places .entry)) (now («data» .entry)) (now (ends .entry)) (now (marks .entry)) (now (indexes .entry))
         (now («out_data» .entry)) (now («out_ends» .entry)) (now («out_marks» .entry)) (now («out_indexes» .entry)) ⌝ }
 {
+    match check_list(data, ends, marks, indexes) {
+        ListCheck::Accepted => {}
+        ListCheck::Refused(k) => {
+            return Written::Refused(k);
+        }
+    }
     if 65536 < places.len() {
         return Written::Refused(Refusal::TooLarge);
     }
@@ -158,7 +164,7 @@ fn write_accepted(
     ) {
         return Written::Refused(Refusal::BufferShort);
     }
-    Written::List(write_elements(
+    write_elements(
         places,
         data,
         ends,
@@ -168,38 +174,5 @@ fn write_accepted(
         out_ends,
         out_marks,
         out_indexes,
-    ))
-}
-
-// The elements at the places, written out as a list into the first numbers of the four lent buffers. What is written is accepted as a
-// list, and its elements are those at the places. A refusal leaves the buffers as they were.
-pub fn write_proof(
-    places: &[u32],
-    data: &[u8],
-    ends: &[u32],
-    marks: &[u8],
-    indexes: &[u64],
-    out_data: &mut [u8],
-    out_ends: &mut [u32],
-    out_marks: &mut [u8],
-    out_indexes: &mut [u64],
-) -> Written
-    ensures { λ r. ⌜ outcome r (now («out_data» .exit)) (now («out_ends» .exit)) (now («out_marks» .exit)) (now («out_indexes» .exit))
-        ≡ proofWritten (now (places .entry)) (now («data» .entry)) (now (ends .entry)) (now (marks .entry)) (now (indexes .entry))
-        (now («out_data» .entry)) (now («out_ends» .entry)) (now («out_marks» .entry)) (now («out_indexes» .entry)) ⌝ }
-{
-    match check_list(data, ends, marks, indexes) {
-        ListCheck::Refused(k) => Written::Refused(k),
-        ListCheck::Accepted => write_accepted(
-            places,
-            data,
-            ends,
-            marks,
-            indexes,
-            out_data,
-            out_ends,
-            out_marks,
-            out_indexes,
-        ),
-    }
+    )
 }

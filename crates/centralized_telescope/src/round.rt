@@ -11,7 +11,7 @@ ghost use Rattle.centralized_telescope.specs.inner.RoundAnswers.{belowX,
 use crate::types::data_of;
 use crate::types::index_bytes;
 use sampling::Draw;
-use sampling::Words;
+use sampling::U128;
 use sampling::below_threshold;
 use sampling::eight_bytes;
 use sampling::sample_uniform;
@@ -145,7 +145,7 @@ pub fn bin_hash(
 }
 
 // Whether a chain of full length with the last hash h passes, x being the threshold X of q.
-pub fn proof_hash(h: [u8; 32], x: Words) -> bool
+pub fn proof_hash(h: [u8; 32], x: U128) -> bool
     ensures { λ r. ⌜ r ≡ belowX (valueOf x) h ⌝ }
 {
     below_threshold(first_half(digest(b"Telescope-proof_hash", &h, b"", b"")), x)

@@ -27,9 +27,9 @@ pub fn prove(
     marks: &[u8],
     indexes: &[u64],
     places: &mut [u32],
-    bins: &mut [u32],
+    table: &mut [u32],
 ) -> ProofSearch
-    ensures { λ r. ⌜ provedBy r (now (places .exit)) (now (bins .exit)) ≡ proved p (now («data» .entry)) (now (ends .entry)) (now (marks .entry)) (now (indexes .entry)) (now (places .entry)) (now (bins .entry)) ⌝ }
+    ensures { λ r. ⌜ provedBy r (now (places .exit)) (now (table .exit)) ≡ proved p (now («data» .entry)) (now (ends .entry)) (now (marks .entry)) (now (indexes .entry)) (now (places .entry)) (now (table .entry)) ⌝ }
 {
     let x = match check_params(p) {
         Checked::Lawful(x) => x,
@@ -46,13 +46,13 @@ pub fn prove(
     if places.len() < p.proof_size as usize {
         return ProofSearch::Refused(Refusal::WorkspaceShort);
     }
-    if bins.len() < 3 * p.set_size as usize + 1 {
+    if table.len() < 3 * p.set_size as usize + 1 {
         return ProofSearch::Refused(Refusal::WorkspaceShort);
     }
     if ends.len() < p.set_size as usize {
         return ProofSearch::Refused(Refusal::NotEnoughElements);
     }
-    prove_routine(p, x, data, ends, marks, indexes, places, bins)
+    prove_routine(p, x, data, ends, marks, indexes, places, table)
 }
 
 // ---- The verifier

@@ -1,7 +1,8 @@
 // Elements as they are lent: data bytes, ends, marks and indexes. All that is known of a lent list elsewhere comes from here.
 ghost use mathlib.Core.Path.{_≡_};
-ghost use mathlib.Core.Bool.{false};
-ghost use Prim.Native.Nat.{_<_, _≤_};
+ghost use mathlib.Core.Bool.{false, _||_};
+ghost use Prim.Native.Nat.{_-_, _<_, _≤_};
+ghost use lib.Dec.{ltb};
 ghost use lib.ListN.{length, take};
 ghost use Rattle.centralized_telescope.specs.Elements.{markOver, endWrong, dataLong, listCheck, listNumber, indexBytes, markOf, numberOf};
 ghost use Rattle.centralized_telescope.specs.inner.ListReading.{foundNumber, startAt, dataAt, indexAt};
@@ -30,18 +31,24 @@ pub fn some_mark_over(marks: &[u8]) -> bool
     false
 }
 
-// Whether an end is before the one before it, or past the data. Before the first there is one at `first`: the list may be a part.
-pub fn some_end_wrong(ends: &[u32], first: u32, limit: usize) -> bool
-    ensures { λ r. ⌜ r ≡ endWrong first limit (now (ends .entry)) ⌝ }
+// Whether an end is before the one before it, or past the data.
+pub fn is_end_wrong(from: usize, end: usize, limit: usize) -> bool
+    ensures { λ r. ⌜ r ≡ (ltb end from || ltb limit end) ⌝ }
 {
-    let mut from = wide(first);
+    if end < from {
+        return true;
+    }
+    limit < end
+}
+
+fn some_end_wrong(ends: &[u32], limit: usize) -> bool
+    ensures { λ r. ⌜ r ≡ endWrong 0 limit (now (ends .entry)) ⌝ }
+{
+    let mut from: usize = 0;
     let mut i = 0;
     while i < ends.len() {
         let end = wide(ends[i]);
-        if end < from {
-            return true;
-        }
-        if limit < end {
+        if is_end_wrong(from, end, limit) {
             return true;
         }
         from = end;
@@ -50,15 +57,24 @@ pub fn some_end_wrong(ends: &[u32], first: u32, limit: usize) -> bool
     false
 }
 
-// Whether an element has over 4,096 data bytes, the data of the first starting at `first`.
-pub fn some_data_long(ends: &[u32], first: u32) -> bool
-    ensures { λ r. ⌜ r ≡ dataLong first (now (ends .entry)) ⌝ }
+// Whether the element between an end and the next has over 4,096 data bytes.
+pub fn is_data_long(from: usize, end: usize) -> bool
+    ensures { λ r. ⌜ r ≡ ltb 4096 (end - from) ⌝ }
 {
-    let mut from = wide(first);
+    if end < from {
+        return false;
+    }
+    4096 < end - from
+}
+
+fn some_data_long(ends: &[u32]) -> bool
+    ensures { λ r. ⌜ r ≡ dataLong 0 (now (ends .entry)) ⌝ }
+{
+    let mut from: usize = 0;
     let mut i = 0;
     while i < ends.len() {
         let end = wide(ends[i]);
-        if 4096 + from < end {
+        if is_data_long(from, end) {
             return true;
         }
         from = end;
@@ -104,8 +120,8 @@ pub fn check_list(data: &[u8], ends: &[u32], marks: &[u8], indexes: &[u64]) -> L
     ensures { λ r. ⌜ listNumber r ≡ listCheck (now («data» .entry)) (now (ends .entry)) (now (marks .entry)) (now (indexes .entry)) ⌝ }
 {
     let mark_over = some_mark_over(marks);
-    let end_wrong = some_end_wrong(ends, 0, data.len());
-    let data_long = some_data_long(ends, 0);
+    let end_wrong = some_end_wrong(ends, data.len());
+    let data_long = some_data_long(ends);
     list_answer(
         ends.len(),
         marks.len(),

@@ -7,8 +7,10 @@ use centralized_telescope::Params;
 use centralized_telescope::ProofSearch;
 use centralized_telescope::RetryCounter;
 use centralized_telescope::SearchCounter;
-use centralized_telescope::Verdict;
+use centralized_telescope::proof_search_number;
+use centralized_telescope::verdict_number;
 use text::one_if;
+use text::outcome::say_outcome;
 use text::say::say;
 use text::say::say_number;
 
@@ -67,10 +69,12 @@ fn say_verdict(retry_counter: RetryCounter, search_counter: SearchCounter) {
         &marks,
         &indexes,
     );
-    match verdict {
-        Verdict::Accepted => say(b"the verifier accepts it\n"),
-        _ => say(b"THE VERIFIER REFUSES IT\n"),
+    let number = verdict_number(verdict) as u64;
+    if number == 0 {
+        say(b"the verifier accepts it\n");
+        return;
     }
+    say_outcome(b"THE VERIFIER REFUSES IT", number);
 }
 
 fn say_found(
@@ -96,7 +100,7 @@ fn main() {
     let marks = [1u8; 1];
     let indexes = [7u64; 1];
     let mut places = [1u32; 1024];
-    let mut bins = [0u32; 4];
+    let mut table = [0u32; 4];
     let found = centralized_telescope::prove(
         settings(),
         &data,
@@ -104,13 +108,13 @@ fn main() {
         &marks,
         &indexes,
         &mut places,
-        &mut bins,
+        &mut table,
     );
     match found {
         ProofSearch::Found(retry_counter, search_counter, count) => {
             say_found(retry_counter, search_counter, count, &places);
             say_verdict(retry_counter, search_counter);
         }
-        _ => say(b"NOT FOUND\n"),
+        _ => say_outcome(b"NOT FOUND", proof_search_number(found) as u64),
     }
 }

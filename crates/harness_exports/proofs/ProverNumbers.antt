@@ -22,6 +22,11 @@ pub counters-left : (out : List ℕ) (n : Numbers) → length out < 3 → out �
 unfolding withCounters
 counters-left out n h = rw (lt-leb 3 (length out) h)
 
+-- an answer's numbers, where k is its number and b what it is
+pub with-number : (a b : ProofSearch) (k : ℕ) → k ≡ provedBy a [] [] .number → a ≡ b
+    → _≡_ {A = Numbers} (record { number = k; retry = numbersOf b .retry; search = numbersOf b .search; count = numbersOf b .count }) (numbersOf a)
+with-number a b k e g = rw (e, g)
+
 -- the numbers don't hang on what is lent
 same-numbers : (a : ProofSearch) (places table : List ℕ) → numbersOf a ≡ inNumbers (provedBy a places table)
 same-numbers (answer.Found R S count) places table = refl
@@ -35,16 +40,16 @@ same-places (answer.NotFoundInBounds count) places table = (refl, refl)
 same-places (answer.NotFound count) places table = (refl, refl)
 same-places (answer.Refused k) places table = (refl, refl)
 
-pub exported-so : (p : Params) (bytes ends marks indexes places bins out : List ℕ) (a : ProofSearch) (n : Numbers) (places′ bins′ out′ : List ℕ)
-    → provedBy a places′ bins′ ≡ proved p bytes ends marks indexes places bins
+pub exported-so : (p : Params) (bytes ends marks indexes places table out : List ℕ) (a : ProofSearch) (n : Numbers) (places′ table′ out′ : List ℕ)
+    → provedBy a places′ table′ ≡ proved p bytes ends marks indexes places table
     → n ≡ numbersOf a
     → out′ ≡ withCounters n out
-    → (n .number, places′, bins′, out′) ≡ exportedProve p bytes ends marks indexes places bins out
+    → (n .number, places′, table′, out′) ≡ exportedProve p bytes ends marks indexes places table out
 unfolding exportedProve
-exported-so p bytes ends marks indexes places bins out a n places′ bins′ out′ e en eo =
-    let r = provedBy a places′ bins′ in
-    let m : n ≡ inNumbers r = en ∙ same-numbers a places′ bins′ in
-    let k = same-places a places′ bins′ in
-    let here : _≡_ {A = ℕ × List ℕ × List ℕ × List ℕ} (n .number, places′, bins′, out′) (r .number, r .places, r .table, withCounters (inNumbers r) out) =
+exported-so p bytes ends marks indexes places table out a n places′ table′ out′ e en eo =
+    let r = provedBy a places′ table′ in
+    let m : n ≡ inNumbers r = en ∙ same-numbers a places′ table′ in
+    let k = same-places a places′ table′ in
+    let here : _≡_ {A = ℕ × List ℕ × List ℕ × List ℕ} (n .number, places′, table′, out′) (r .number, r .places, r .table, withCounters (inNumbers r) out) =
     rw (eo, m, ← k .0, ← k .1) in
     here ∙ ap (λ (q : Proved). (q .number, q .places, q .table, withCounters (inNumbers q) out)) e

@@ -59,6 +59,6 @@ withCounters n out = cond (leb 3 (length out)) (n .retry ∷ n .search ∷ n .co
 
 -- the number, and places, bin table and the lent numbers afterwards
 unfoldable pub exportedProve : Params → List ℕ → List ℕ → List ℕ → List ℕ → List ℕ → List ℕ → List ℕ → ℕ × List ℕ × List ℕ × List ℕ
-exportedProve p bytes ends marks indexes places bins out =
-    let r : Proved = proved p bytes ends marks indexes places bins in
+exportedProve p bytes ends marks indexes places table out =
+    let r : Proved = proved p bytes ends marks indexes places table in
     (r .number, r .places, r .table, withCounters (inNumbers r) out)

@@ -12,6 +12,7 @@ use centralized_telescope::Params;
 use centralized_telescope::ProofSearch;
 use centralized_telescope::SmallCase;
 use centralized_telescope::SmallSettings;
+use centralized_telescope::proof_search_number;
 use centralized_telescope::refusal_number;
 
 // SHA-256 of four strings joined into 32 lent bytes: 0 with the digest, 9 with zeros, or 8 with nothing written where `out`
@@ -100,16 +101,17 @@ fn without_proof(number: u32, count: u64) -> Numbers
 fn numbers_of(answer: ProofSearch) -> Numbers
     ensures { λ r. ⌜ r ≡ numbersOf answer ⌝ }
 {
+    let number = proof_search_number(answer);
     match answer {
         ProofSearch::Found(retry, search, count) => Numbers {
-            number: 0,
+            number,
             retry: retry.0,
             search: search.0,
             count,
         },
-        ProofSearch::NotFoundInBounds(count) => without_proof(11, count),
-        ProofSearch::NotFound(count) => without_proof(12, count),
-        ProofSearch::Refused(k) => without_proof(refusal_number(k), 0),
+        ProofSearch::NotFoundInBounds(count) => without_proof(number, count),
+        ProofSearch::NotFound(count) => without_proof(number, count),
+        ProofSearch::Refused(_) => without_proof(number, 0),
     }
 }
 
@@ -138,10 +140,10 @@ pub extern "C" fn alba_prove(
     marks: &[u8],
     indexes: &[u64],
     places: &mut [u32],
-    bins: &mut [u32],
+    table: &mut [u32],
     out: &mut [u64],
 ) -> u32
-    ensures { λ r. ⌜ (r, now (places .exit), now (bins .exit), now (out .exit)) ≡ exportedProve (settingsOf «set_size» «proof_size» «max_retries» «search_width» «dfs_bound» q) (now («data» .entry)) (now (ends .entry)) (now (marks .entry)) (now (indexes .entry)) (now (places .entry)) (now (bins .entry)) (now (out .entry)) ⌝ }
+    ensures { λ r. ⌜ (r, now (places .exit), now (table .exit), now (out .exit)) ≡ exportedProve (settingsOf «set_size» «proof_size» «max_retries» «search_width» «dfs_bound» q) (now («data» .entry)) (now (ends .entry)) (now (marks .entry)) (now (indexes .entry)) (now (places .entry)) (now (table .entry)) (now (out .entry)) ⌝ }
 {
     let p = Params {
         set_size,
@@ -151,7 +153,7 @@ pub extern "C" fn alba_prove(
         dfs_bound,
         q,
     };
-    let answer = centralized_telescope::prove(p, data, ends, marks, indexes, places, bins);
+    let answer = centralized_telescope::prove(p, data, ends, marks, indexes, places, table);
     let n = numbers_of(answer);
     put_counters(n, out);
     n.number

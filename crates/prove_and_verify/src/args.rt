@@ -1,11 +1,11 @@
 // The program's arguments.
 ghost use Rattle.io.specs.Counts.{Counts};
-use crate::report::say_figure;
 use text::double;
 use text::hex;
 use text::number;
 use text::number::Number;
 use text::say::say;
+use text::say::say_figure;
 
 // A double, where an argument writes one.
 pub struct Double {

@@ -2,16 +2,16 @@
 ghost use mathlib.Core.Path.{_≡_};
 ghost use lib.ListN.{length};
 use crate::report::say_of_file;
-use crate::report::say_outcome;
 use crate::report::say_refused;
 use centralized_telescope::Params;
 use centralized_telescope::RetryCounter;
 use centralized_telescope::SearchCounter;
 use centralized_telescope::Verdict;
 use centralized_telescope::Written;
-use centralized_telescope::refusal_number;
+use centralized_telescope::verdict_number;
 use text::elements;
 use text::least;
+use text::outcome::say_outcome;
 use text::say::say;
 
 // R and S of a proof.
@@ -91,18 +91,13 @@ fn is_written(
     is_whole && is_closed
 }
 
-fn say_dark(number: u64) {
-    say_outcome(b"dark", number);
-}
-
 fn say_verdict(verdict: Verdict) {
-    match verdict {
-        Verdict::Accepted => say(b"green\n"),
-        Verdict::IncorrectNumberElements => say_dark(20),
-        Verdict::InvalidParameters => say_dark(21),
-        Verdict::InvalidProof => say_dark(22),
-        Verdict::Refused(k) => say_dark(refusal_number(k) as u64),
+    let number = verdict_number(verdict) as u64;
+    if number == 0 {
+        say(b"green\n");
+        return;
     }
+    say_outcome(b"dark", number);
 }
 
 // The list of a proof's elements into its file, and what the verifier says of it.

@@ -4,17 +4,17 @@ ghost use lib.ListN.{length};
 use crate::elements_file;
 use crate::proof_file;
 use crate::proof_file::Counters;
-use crate::report::say_figure;
 use crate::report::say_of_file;
-use crate::report::say_outcome;
-use crate::report::say_refused;
 use crate::settings;
 use centralized_telescope::Params;
 use centralized_telescope::ProofSearch;
+use centralized_telescope::proof_search_number;
+use text::outcome::say_outcome;
 use text::say::say;
+use text::say::say_figure;
 
 // Room for the bin table of the largest set size.
-fn bins_room() -> [u32; 98305]
+fn table_room() -> [u32; 98305]
     ensures { λ r. ⌜ 98305 ≡ length r ⌝ }
 {
     [0; 98305]
@@ -59,8 +59,17 @@ fn say_not_found(number: u64, count: u64) {
 
 fn search(p: Params, proof: &[u8], data: &[u8], ends: &[u32], marks: &[u8], indexes: &[u64]) {
     let mut places = [0u32; 1024];
-    let mut bins = bins_room();
-    let found = centralized_telescope::prove(p, data, ends, marks, indexes, &mut places, &mut bins);
+    let mut table = table_room();
+    let found = centralized_telescope::prove(
+        p,
+        data,
+        ends,
+        marks,
+        indexes,
+        &mut places,
+        &mut table,
+    );
+    let number = proof_search_number(found) as u64;
     match found {
         ProofSearch::Found(retry, search, count) => {
             let counters = Counters { retry, search };
@@ -68,9 +77,9 @@ fn search(p: Params, proof: &[u8], data: &[u8], ends: &[u32], marks: &[u8], inde
             say_found(counters, count, chain);
             proof_file::write_and_verify(p, proof, counters, chain, data, ends, marks, indexes);
         }
-        ProofSearch::NotFoundInBounds(count) => say_not_found(11, count),
-        ProofSearch::NotFound(count) => say_not_found(12, count),
-        ProofSearch::Refused(k) => say_refused(k),
+        ProofSearch::NotFoundInBounds(count) => say_not_found(number, count),
+        ProofSearch::NotFound(count) => say_not_found(number, count),
+        ProofSearch::Refused(_) => say_outcome(b"refused", number),
     }
 }
 

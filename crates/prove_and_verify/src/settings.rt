@@ -1,6 +1,5 @@
 // The settings that the arguments ask for.
 use crate::args;
-use crate::report::say_figure;
 use crate::report::say_refused;
 use centralized_telescope::Params;
 use centralized_telescope::Refusal;
@@ -9,6 +8,7 @@ use centralized_telescope::SmallSettings;
 use libc::STDOUT_FILENO;
 use text::double;
 use text::say::say;
+use text::say::say_figure;
 
 // What the arguments after the two files ask for.
 pub enum Asked {

@@ -1,12 +1,17 @@
--- The laws that the proofs of `sampling` share.
+-- The laws that the proofs of `sampling` share, by the source file that they serve.
+-- big_endian.rt, sha256.rt
 mod Written
+mod BytesRead
+-- sha256.rt
 mod Schedule
 mod Rounds
 mod Blocks
 mod Absorbing
+-- sample.rt
 mod Remainder
 mod PowerOfTwo
-mod TwoWords
-mod FullWords
+mod TwoHalves
+mod FullHalves
 mod ThresholdBits
+-- exports.rt
 mod ExportedAnswers

@@ -1,4 +1,4 @@
--- Remainders of sums and products: what the two ways to divide a number of two words rest on.
+-- Remainders of sums and products: what the two ways to divide a number of two halves rest on.
 use mathlib.Core.Path.{_≡_, sym, ap, _∙_}
 use Prim.Native.Nat.{ℕ, _+_, _-_, _*_, _/_, _%_, _^_, _≤_, _<_}
 use native.Mathlib.Nat.{add-mul, mul-assoc, add-assoc, div-add-mod, mul-add-mod-self-left, add-mod, mod-eq-of-lt, mod-eq-sub-mod}
@@ -39,9 +39,9 @@ next-digit x b d n =
         ap (λ (k : ℕ). k + d) (add-mul (n * (x / n)) (x % n) b ∙ ap (λ (k : ℕ). k + x % n * b) (mul-assoc n (x / n) b))
         ∙ add-assoc (n * (x / n * b)) (x % n * b) d
 
--- two digits of 32 bits make the low word
+-- two digits of 32 bits make the low half
 pub two-digits : (hi lo n : ℕ) → ((hi % n * 2 ^ 32 + lo / 2 ^ 32) % n * 2 ^ 32 + lo % 2 ^ 32) % n ≡ (hi * 2 ^ 64 + lo) % n
-two-digits hi lo n = next-digit (hi % n * 2 ^ 32 + lo / 2 ^ 32) (2 ^ 32) (lo % 2 ^ 32) n ∙ ap (λ (k : ℕ). k % n) (one-word (hi % n)) ∙ next-digit hi (2 ^ 64) lo n
+two-digits hi lo n = next-digit (hi % n * 2 ^ 32 + lo / 2 ^ 32) (2 ^ 32) (lo % 2 ^ 32) n ∙ ap (λ (k : ℕ). k % n) (one-half (hi % n)) ∙ next-digit hi (2 ^ 64) lo n
   where
-    one-word : (a : ℕ) → (a * 2 ^ 32 + lo / 2 ^ 32) * 2 ^ 32 + lo % 2 ^ 32 ≡ a * 2 ^ 64 + lo
-    one-word a = omega arith
+    one-half : (a : ℕ) → (a * 2 ^ 32 + lo / 2 ^ 32) * 2 ^ 32 + lo % 2 ^ 32 ≡ a * 2 ^ 64 + lo
+    one-half a = omega arith

@@ -1,5 +1,5 @@
 -- The threshold from the bits of a double. A double whose exponent's field is x, from 1 to 2046, is q * 2 ^ (x - 1075), with q its digits
--- under a leading one: so X is the smaller of q * 2 ^ (x + 127) / 2 ^ 1074 and 2 ^ 128 - 1, and shifts of q make its two words.
+-- under a leading one: so X is the smaller of q * 2 ^ (x + 127) / 2 ^ 1074 and 2 ^ 128 - 1, and shifts of q make its two halves.
 use mathlib.Core.Path.{_≡_, refl, sym, ap, _∙_, subst}
 use mathlib.Core.Bool.{Bool, true, false, not, cond}
 use mathlib.Core.Logic.{inl, inr}
@@ -88,7 +88,7 @@ of-infinite s t n = go (eqb t 0) n
     go true n = refl
     go false n = absurd n
 
--- ---- the words, by the field x
+-- ---- the halves, by the field x
 
 module _ (x q : ℕ) (Q : q < 2 ^ 53) where
   -- what is capped, where it is below the cap and where it is not
@@ -158,20 +158,20 @@ module _ (v : Float) (F : T (fits binary64 v)) where
   is-normal : 0 < exponent → exponent < 2047 → cap (digits * 2 ^ (exponent + 127) / 2 ^ 1074) ≡ threshold v
   is-normal h g = sym (ap threshold by-fields ∙ of-normal (leb (2 ^ 63) bits) exponent (bits % 2 ^ 52) h g)
 
-  pub no-words : exponent < 884 → 0 ≡ threshold v
-  no-words h = sym (ap threshold by-fields ∙ of-tiny (leb (2 ^ 63) bits) exponent (bits % 2 ^ 52) rest-fits h)
+  pub no-half : exponent < 884 → 0 ≡ threshold v
+  no-half h = sym (ap threshold by-fields ∙ of-tiny (leb (2 ^ 63) bits) exponent (bits % 2 ^ 52) rest-fits h)
 
-  pub low-word : 884 ≤ exponent → exponent ≤ 947 → 0 + digits / 2 ^ (947 - exponent) ≡ threshold v
-  low-word l h = low-only exponent digits digits-fit h ∙ is-normal (omega arith) (omega arith)
+  pub low-half : 884 ≤ exponent → exponent ≤ 947 → 0 + digits / 2 ^ (947 - exponent) ≡ threshold v
+  low-half l h = low-only exponent digits digits-fit h ∙ is-normal (omega arith) (omega arith)
 
-  pub both-words : 947 < exponent → exponent < 1011 → digits / 2 ^ (1011 - exponent) * 2 ^ 64 + digits * 2 ^ (exponent - 947) % 2 ^ 64 ≡ threshold v
-  both-words l h = both exponent digits digits-fit l h ∙ is-normal (omega arith) (omega arith)
+  pub both-halves : 947 < exponent → exponent < 1011 → digits / 2 ^ (1011 - exponent) * 2 ^ 64 + digits * 2 ^ (exponent - 947) % 2 ^ 64 ≡ threshold v
+  both-halves l h = both exponent digits digits-fit l h ∙ is-normal (omega arith) (omega arith)
 
-  pub high-word : 1011 ≤ exponent → exponent < 1023 → digits * 2 ^ (exponent - 1011) % 2 ^ 64 * 2 ^ 64 + 0 ≡ threshold v
-  high-word l h = high-only exponent digits digits-fit l h ∙ is-normal (omega arith) (omega arith)
+  pub high-half : 1011 ≤ exponent → exponent < 1023 → digits * 2 ^ (exponent - 1011) % 2 ^ 64 * 2 ^ 64 + 0 ≡ threshold v
+  high-half l h = high-only exponent digits digits-fit l h ∙ is-normal (omega arith) (omega arith)
 
-  pub full-words : T (not (isNan v)) → 1023 ≤ exponent → 2 ^ 128 - 1 ≡ threshold v
-  full-words n h = elim (eq-or-lt-of-le {n = exponent} {m = 2047} (omega (arith, mod-lt (bits / 2 ^ 52) (pow-pos 11)))) [
+  pub full-halves : T (not (isNan v)) → 1023 ≤ exponent → 2 ^ 128 - 1 ≡ threshold v
+  full-halves n h = elim (eq-or-lt-of-le {n = exponent} {m = 2047} (omega (arith, mod-lt (bits / 2 ^ 52) (pow-pos 11)))) [
     | inl e ↦
         let at : v ≡ ofFields binary64 (leb (2 ^ 63) bits) 2047 (bits % 2 ^ 52) = by-fields ∙ ap (λ (k : ℕ). ofFields binary64 (leb (2 ^ 63) bits) k (bits % 2 ^ 52)) e in
         sym (ap threshold at ∙ of-infinite (leb (2 ^ 63) bits) (bits % 2 ^ 52) (subst (λ (k : Float). T (not (isNan k))) at n))

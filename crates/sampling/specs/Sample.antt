@@ -6,7 +6,7 @@ use lib.IntN.{ℤ, pos}
 use lib.Dec.{leb, ltb, eqb}
 use lib.Ieee.{Float, nan, inf, fin, up, down, lt, isNan}
 use Rattle.sampling.specs.BigEndian.{bigEndian}
-use Rattle.sampling.specs.declared.sample.Words.{Words}
+use Rattle.sampling.specs.declared.sample.U128.{U128}
 use Rattle.sampling.specs.declared.sample.Draw.{Draw}
 use Rattle.sampling.specs.declared.sample.Chance.{Chance}
 use Rattle.sampling.specs.declared.sample.Threshold.{Threshold}
@@ -59,8 +59,8 @@ threshold (fin s m e) = min (floorOf m e) (2 ^ 128 - 1)
 unfoldable pub thresholdOrRefusal : Float → ℕ × ℕ
 thresholdOrRefusal q = cond (outsideUnit q) (3, 0) (0, threshold q)
 
--- 01, Vec, Digest and u128 in this source: a u128 by its two words
-abbrev pub valueOf : Words → ℕ
+-- 01, Vec, Digest and u128 in this source: a u128 by its two halves
+abbrev pub valueOf : U128 → ℕ
 valueOf w = w .hi * 2 ^ 64 + w .lo
 
 -- 01's number and X for each answer of `threshold_of`

@@ -7,10 +7,11 @@ mod sample;
 pub mod sha256;
 
 pub use big_endian::eight_bytes;
+pub use big_endian::number_of;
 pub use sample::Chance;
 pub use sample::Draw;
 pub use sample::Threshold;
-pub use sample::Words;
+pub use sample::U128;
 pub use sample::below_threshold;
 pub use sample::sample_bernoulli;
 pub use sample::sample_uniform;

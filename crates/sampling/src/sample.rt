@@ -1,4 +1,4 @@
-// The sampler: a number below n, and a yes or no, from 16 bytes of a hash. Two u64 words stand for a u128.
+// The sampler: a number below n, and a yes or no, from 16 bytes of a hash. Two u64 stand for a u128.
 
 ghost use mathlib.Core.Path.{_≡_};
 ghost use mathlib.Core.Bool.{true, false};
@@ -6,9 +6,10 @@ ghost use Prim.Native.Nat.{_+_, _-_, _*_, _^_, _%_, _≤_, _<_};
 ghost use lib.Dec.{ltb};
 ghost use Rattle.sampling.specs.BigEndian.{bigEndian};
 ghost use Rattle.sampling.specs.Sample.{isPower, modNotPower, uniform, drawNumber, outsideUnit, threshold, thresholdOrRefusal, thresholdNumber, bernoulli, chanceNumber, valueOf};
+use crate::big_endian::number_of;
 
 // A number of 128 bits: hi * 2^64 + lo.
-pub struct Words {
+pub struct U128 {
     pub hi: u64,
     pub lo: u64,
 }
@@ -29,26 +30,17 @@ pub enum Chance {
 
 // What a probability comes to: a number of 128 bits that the hash must stay below.
 pub enum Threshold {
-    At(Words),
+    At(U128),
     Refused,
 }
 
-// Eight bytes as one number, the first byte highest.
-fn word(a: u8, b: u8, c: u8, d: u8, e: u8, f: u8, g: u8, h: u8) -> u64
-    ensures { λ r. ⌜ r ≡ ((((((a * 256 + b) * 256 + c) * 256 + d) * 256 + e) * 256 + f) * 256 + g) * 256 + h ⌝ }
-{
-    let high = (((a as u64) * 256 + (b as u64)) * 256 + (c as u64)) * 256 + (d as u64);
-    let low = (((e as u64) * 256 + (f as u64)) * 256 + (g as u64)) * 256 + (h as u64);
-    high * 0x1_0000_0000 + low
-}
-
-// The 16 bytes as one number: its high word is that of the first 8.
-fn words_of(h: [u8; 16]) -> Words
+// The 16 bytes as one number: its high half is that of the first 8.
+fn u128_of(h: [u8; 16]) -> U128
     ensures { λ r. ⌜ (r .hi ≡ bigEndian 8 h) × (valueOf r ≡ bigEndian 16 h) ⌝ }
 {
-    let hi = word(h[0], h[1], h[2], h[3], h[4], h[5], h[6], h[7]);
-    let lo = word(h[8], h[9], h[10], h[11], h[12], h[13], h[14], h[15]);
-    Words { hi, lo }
+    let hi = number_of(&h[..8]);
+    let lo = number_of(&h[8..]);
+    U128 { hi, lo }
 }
 
 // Whether n is a power of two: whether its highest bit is all of it.
@@ -79,8 +71,8 @@ fn add_mod(a: u64, b: u64, n: u64) -> u64
     b - room
 }
 
-// i modulo any n: the high word's remainder doubled 64 times, and the low word's added.
-fn mod_by_doubling(i: Words, n: u64) -> u64
+// i modulo any n: the high half's remainder doubled 64 times, and the low half's added.
+fn mod_by_doubling(i: U128, n: u64) -> u64
     requires { ⌜ 0 < n ⌝ }
     ensures { λ r. ⌜ r ≡ valueOf i % n ⌝ }
 {
@@ -94,7 +86,7 @@ fn mod_by_doubling(i: Words, n: u64) -> u64
 }
 
 // i modulo an n of at most 2^32: long division, by digits of 32 bits.
-fn mod_by_halves(i: Words, n: u64) -> u64
+fn mod_by_halves(i: U128, n: u64) -> u64
     requires { ⌜ (0 < n) × (n ≤ 2 ^ 32) ⌝ }
     ensures { λ r. ⌜ r ≡ valueOf i % n ⌝ }
 {
@@ -104,7 +96,7 @@ fn mod_by_halves(i: Words, n: u64) -> u64
 }
 
 // i modulo n.
-fn mod_words(i: Words, n: u64) -> u64
+fn mod_u128(i: U128, n: u64) -> u64
     requires { ⌜ 0 < n ⌝ }
     ensures { λ r. ⌜ r ≡ valueOf i % n ⌝ }
 {
@@ -115,14 +107,14 @@ fn mod_words(i: Words, n: u64) -> u64
 }
 
 // i modulo n, unless i is D * n or more. With m the remainder of 2^128 - 1, D * n is 2^128 - 1 - m: only an i
-// whose high word is full, and whose low word is within m of full, comes to it.
-fn mod_not_power_of_2(i: Words, n: u64) -> Draw
+// whose high half is full, and whose low half is within m of full, comes to it.
+fn mod_not_power_of_2(i: U128, n: u64) -> Draw
     requires { ⌜ 0 < n ⌝ }
     ensures { λ r. ⌜ drawNumber r ≡ modNotPower (valueOf i) n ⌝ }
 {
     if i.hi == 0xffff_ffff_ffff_ffff {
-        let m = mod_words(
-            Words {
+        let m = mod_u128(
+            U128 {
                 hi: 0xffff_ffff_ffff_ffff,
                 lo: 0xffff_ffff_ffff_ffff,
             },
@@ -132,7 +124,7 @@ fn mod_not_power_of_2(i: Words, n: u64) -> Draw
             return Draw::NoDraw;
         }
     }
-    Draw::Value(mod_words(i, n))
+    Draw::Value(mod_u128(i, n))
 }
 
 // A number below n, or no draw. Refused: n is 0.
@@ -142,7 +134,7 @@ pub fn sample_uniform(h: [u8; 16], n: u64) -> Draw
     if n == 0 {
         return Draw::Refused;
     }
-    let i = words_of(h);
+    let i = u128_of(h);
     if is_power_of_two(n) {
         return Draw::Value(mod_power_of_2(i.hi, n));
     }
@@ -164,8 +156,8 @@ fn is_outside_unit(q: f64) -> bool
 
 // X of q, exactly: floor(q * 2^128), at most 2^128 - 1. q is digits * 2^(exponent - 1075), so q * 2^128 is digits * 2^(exponent - 947),
 // with digits of 53 bits. By the exponent: up to 894 it is less than 1, a subnormal q too, and below 884 the shift would be 64 or more; up to
-// 947 it fits the low word; from 1011 on its low word is 0; at 1023 q is 1.
-fn threshold_words(q: f64) -> Words
+// 947 it fits the low half; from 1011 on its low half is 0; at 1023 q is 1.
+fn unit_threshold(q: f64) -> U128
     requires { ⌜ outsideUnit q ≡ false ⌝ }
     ensures { λ r. ⌜ valueOf r ≡ threshold q ⌝ }
 {
@@ -173,27 +165,27 @@ fn threshold_words(q: f64) -> Words
     let exponent: u64 = bits / 0x10_0000_0000_0000 % 2048;
     let digits: u64 = 0x10_0000_0000_0000 + bits % 0x10_0000_0000_0000;
     if exponent < 884 {
-        return Words { hi: 0, lo: 0 };
+        return U128 { hi: 0, lo: 0 };
     }
     if exponent <= 947 {
-        return Words {
+        return U128 {
             hi: 0,
             lo: digits >> (947 - exponent),
         };
     }
     if exponent < 1011 {
-        return Words {
+        return U128 {
             hi: digits >> (1011 - exponent),
             lo: digits << (exponent - 947),
         };
     }
     if exponent < 1023 {
-        return Words {
+        return U128 {
             hi: digits << (exponent - 1011),
             lo: 0,
         };
     }
-    Words {
+    U128 {
         hi: 0xffff_ffff_ffff_ffff,
         lo: 0xffff_ffff_ffff_ffff,
     }
@@ -206,14 +198,14 @@ pub fn threshold_of(q: f64) -> Threshold
     if is_outside_unit(q) {
         return Threshold::Refused;
     }
-    Threshold::At(threshold_words(q))
+    Threshold::At(unit_threshold(q))
 }
 
 // Whether the 16 bytes, as one number, are below x.
-pub fn below_threshold(h: [u8; 16], x: Words) -> bool
+pub fn below_threshold(h: [u8; 16], x: U128) -> bool
     ensures { λ r. ⌜ r ≡ ltb (bigEndian 16 h) (valueOf x) ⌝ }
 {
-    let i = words_of(h);
+    let i = u128_of(h);
     if i.hi == x.hi {
         return i.lo < x.lo;
     }

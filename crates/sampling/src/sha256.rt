@@ -270,17 +270,12 @@ fn compress(s: State, m: [u32; 16]) -> State
 
 // ---- Bytes and words (3.1)
 
-fn word_of(b0: u8, b1: u8, b2: u8, b3: u8) -> u32
-    ensures { λ r. ⌜ r ≡ b0 * 2 ^ 24 + b1 * 2 ^ 16 + b2 * 2 ^ 8 + b3 ⌝ }
-{
-    (b0 as u32) * 0x100_0000 + (b1 as u32) * 0x1_0000 + (b2 as u32) * 0x100 + (b3 as u32)
-}
-
 fn word_at(s: &[u8], i: usize) -> u32
     requires { ⌜ i + 4 ≤ length (now s) ⌝ }
     ensures { λ r. ⌜ r ≡ word (now (s .entry)) i ⌝ }
 {
-    word_of(s[i], s[i + 1], s[i + 2], s[i + 3])
+    let end = i + 4;
+    big_endian::number_of(&s[i..end]) as u32
 }
 
 // A word as a number to be written. By a call, an element's own bound needs no proof.

@@ -7,6 +7,7 @@ pub mod elements;
 pub mod hex;
 pub mod lines;
 pub mod number;
+pub mod outcome;
 pub mod say;
 pub mod words;
 

@@ -8,3 +8,9 @@ pub fn say(text: &[u8]) {
 pub fn say_number(n: u64) {
     io::print_decimal(STDOUT_FILENO, n);
 }
+
+// A figure with a name before it.
+pub fn say_figure(name: &[u8], n: u64) {
+    say(name);
+    say_number(n);
+}

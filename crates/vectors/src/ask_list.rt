@@ -9,8 +9,9 @@ use centralized_telescope::Params;
 use centralized_telescope::ProofSearch;
 use centralized_telescope::RetryCounter;
 use centralized_telescope::SearchCounter;
-use centralized_telescope::Verdict;
+use centralized_telescope::proof_search_number;
 use centralized_telescope::refusal_number;
+use centralized_telescope::verdict_number;
 use text::words;
 
 // Stands in each place before a search: no list has so many elements.
@@ -90,21 +91,11 @@ fn with_places(places: &[u32], found: usize, at: usize, out: &mut [u8]) -> Said
     said::whole(said::put_word(out, end, b"more-places-written"))
 }
 
-// The number that an answer of the prover has.
-fn search_number(answer: ProofSearch) -> u64 {
-    match answer {
-        ProofSearch::Found(_, _, _) => 0,
-        ProofSearch::NotFoundInBounds(_) => 11,
-        ProofSearch::NotFound(_) => 12,
-        ProofSearch::Refused(k) => refusal_number(k) as u64,
-    }
-}
-
 // The answer's numbers that stand before its places: where they end.
 fn put_search(answer: ProofSearch, out: &mut [u8]) -> usize
     ensures { λ r. ⌜ r ≤ length (now (out .exit)) ⌝ }
 {
-    let at = said::put_number(out, 0, search_number(answer));
+    let at = said::put_number(out, 0, proof_search_number(answer) as u64);
     match answer {
         ProofSearch::Found(retry_counter, search_counter, count) => {
             let retry = said::put_number(out, at, retry_counter.0);
@@ -142,7 +133,7 @@ pub fn prove(
         return said::nothing();
     }
     let mut places = [MARK; 1040];
-    let mut bins = [0u32; 3001];
+    let mut table = [0u32; 3001];
     let params = p.params;
     let answer = centralized_telescope::prove(
         params,
@@ -151,7 +142,7 @@ pub fn prove(
         marks,
         indexes,
         &mut places,
-        &mut bins,
+        &mut table,
     );
     let at = put_search(answer, out);
     with_places(
@@ -160,16 +151,6 @@ pub fn prove(
         at,
         out,
     )
-}
-
-fn verdict_number(verdict: Verdict) -> u64 {
-    match verdict {
-        Verdict::Accepted => 0,
-        Verdict::IncorrectNumberElements => 20,
-        Verdict::InvalidParameters => 21,
-        Verdict::InvalidProof => 22,
-        Verdict::Refused(k) => refusal_number(k) as u64,
-    }
 }
 
 // verify SETTINGS R S
@@ -198,5 +179,5 @@ pub fn verify(
         marks,
         indexes,
     );
-    said::one(out, verdict_number(verdict))
+    said::one(out, verdict_number(verdict) as u64)
 }

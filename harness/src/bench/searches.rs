@@ -73,12 +73,12 @@ fn searches<E: AsRef<[u8]> + Clone>(
 fn search<E: AsRef<[u8]> + Clone>(settings: &Settings, seed: u64, element: fn(&[u8; 48]) -> E) -> Result<(f64, f64, Proven<E>), String> {
     let (list, elements) = any_elements(&mut Rng::new(seed, settings.proof_size), SET_SIZE, element);
     let mut places = vec![u32::MAX; settings.proof_size as usize];
-    let mut bins = vec![u32::MAX; 3 * SET_SIZE as usize + 1];
+    let mut table = vec![u32::MAX; 3 * SET_SIZE as usize + 1];
     let mut out = [0; 3];
     let (ours, number) = timed(|| {
-        bins.fill(0);
+        table.fill(0);
         places.fill(0);
-        ffi::prove(black_box(settings), list.lent(), &mut places[..], &mut bins[..], &mut out[..])
+        ffi::prove(black_box(settings), list.lent(), &mut places[..], &mut table[..], &mut out[..])
     });
     let (theirs, (steps, answer)) = timed(|| original::prove_routine(black_box(settings), &elements));
     let failed = |what: &str| format!("harness: prove, u = {}, list {seed}: {what}", settings.proof_size);

@@ -24,8 +24,8 @@ pub fn run() -> Result<(), String> {
 fn of((set_size, shape): (u64, &str), proof_size: u64) -> Result<(), String> {
     let settings = Settings { set_size, proof_size, max_retries: 1, search_width: (1 << 32) - 1, dfs_bound: STEPS, q: 0.0 };
     let (list, elements) = any_elements(&mut Rng::new(0, proof_size), set_size, |data| *data);
-    let (mut places, mut bins, mut out) = (vec![0; proof_size as usize], vec![0; 3 * set_size as usize + 1], [0; 3]);
-    let (ours, number) = timed(|| ffi::prove(black_box(&settings), list.lent(), &mut places[..], &mut bins[..], &mut out[..]));
+    let (mut places, mut table, mut out) = (vec![0; proof_size as usize], vec![0; 3 * set_size as usize + 1], [0; 3]);
+    let (ours, number) = timed(|| ffi::prove(black_box(&settings), list.lent(), &mut places[..], &mut table[..], &mut out[..]));
     let (theirs, (steps, answer)) = timed(|| original::prove_routine(black_box(&settings), &elements));
     if (number, out) != (ffi::NOT_FOUND_IN_BOUNDS, [0, 0, STEPS]) || (answer.err(), steps) != (Some(number), STEPS) {
         return Err(format!("harness: {STEPS} steps, u = {proof_size}: ours {number} with {out:?}, the Rust's {steps} steps"));

@@ -100,7 +100,7 @@ fn distinct() -> Export {
     Export { name: "alba_check_distinct", args, answer: 0, ours, due }
 }
 
-/// Parameters: set_size, proof_size, max_retries, search_width, dfs_bound, q, data, ends, marks, indexes, places, bins, out. Workspace is
+/// Parameters: set_size, proof_size, max_retries, search_width, dfs_bound, q, data, ends, marks, indexes, places, table, out. Workspace is
 /// enough in most orders of the settings, so that they are searches too.
 fn prove() -> Result<Export, String> {
     let s = Settings { set_size: 5, proof_size: 3, max_retries: 9, search_width: 4, dfs_bound: 60, q: 0.005 };
@@ -115,23 +115,23 @@ fn prove() -> Result<Export, String> {
     };
     let ours = |args: &mut Args| {
         let (s, bytes) = (settings(args), &args.bytes);
-        let ([ends, places, bins], [indexes, out]) = (&mut args.words[..], &mut args.longs[..]) else { unreachable!("three and two") };
+        let ([ends, places, table], [indexes, out]) = (&mut args.words[..], &mut args.longs[..]) else { unreachable!("three and two") };
         let list = Listed { data: Some(&bytes[0]), ends: Some(ends), marks: Some(&bytes[1]), indexes: Some(indexes) };
-        ffi::prove(&s, list, &mut places[..], &mut bins[..], &mut out[..])
+        ffi::prove(&s, list, &mut places[..], &mut table[..], &mut out[..])
     };
     Ok(Export { name: "alba_prove", args, answer: 0, ours, due: prove_due })
 }
 
 fn prove_due(args: &mut Args) -> Result<u32, String> {
     let (s, list) = (settings(args), list_of(args));
-    let ([_, places, bins], [_, out]) = (&mut args.words[..], &mut args.longs[..]) else { unreachable!("three and two") };
-    let (number, result) = match rules::prover(&s, &list, places.len(), bins.len()) {
+    let ([_, places, table], [_, out]) = (&mut args.words[..], &mut args.longs[..]) else { unreachable!("three and two") };
+    let (number, result) = match rules::prover(&s, &list, places.len(), table.len()) {
         Err(number) => (number, [0; 3]),
         Ok(()) => {
             let due = searches::due(&s, &list)?;
-            let table = searches::table_after(&s, &list, &due);
+            let due_table = searches::table_after(&s, &list, &due);
             places[..due.places.len()].copy_from_slice(&due.places);
-            bins[..table.len()].copy_from_slice(&table);
+            table[..due_table.len()].copy_from_slice(&due_table);
             (due.number, [due.retry_counter, due.search_counter, due.count])
         }
     };

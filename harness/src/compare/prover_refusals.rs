@@ -13,7 +13,7 @@ pub struct Given {
     pub settings: Settings,
     pub list: List,
     pub places: usize,
-    pub bins: usize,
+    pub table: usize,
 }
 
 pub fn run(run: &mut Run, cases: u64) -> Checked {
@@ -49,7 +49,7 @@ fn short() -> Settings {
 
 /// With workspace just enough.
 pub fn enough(settings: Settings, list: List) -> Given {
-    Given { settings, list, places: settings.proof_size as usize, bins: 3 * settings.set_size as usize + 1 }
+    Given { settings, list, places: settings.proof_size as usize, table: 3 * settings.set_size as usize + 1 }
 }
 
 fn fault(rng: &mut Rng, given: &mut Given) {
@@ -57,8 +57,8 @@ fn fault(rng: &mut Rng, given: &mut Given) {
         0..=2 => faults::in_settings(rng, &mut given.settings),
         3..=5 => faults::in_list(rng, &mut given.list),
         6 => given.places = given.places.saturating_sub(1),
-        7 => given.bins = if rng.below(4) == 0 { rng.below(given.bins as u64 + 1) as usize } else { given.bins.saturating_sub(1) },
-        8 => (given.places, given.bins) = (0, 0),
+        7 => given.table = if rng.below(4) == 0 { rng.below(given.table as u64 + 1) as usize } else { given.table.saturating_sub(1) },
+        8 => (given.places, given.table) = (0, 0),
         _ => {
             let mut places: Vec<u32> = (0..given.settings.set_size.min(given.list.len() as u64) as u32).collect();
             places.pop();
@@ -75,13 +75,13 @@ fn listed() -> Vec<Given> {
     // 6 comes before 10, and each workspace is looked at.
     for set_size in [5, 6] {
         let whole = enough(Settings { set_size, proof_size: 3, ..short() }, faults::long_list(5, 3));
-        let bins = whole.bins - 1;
-        all.extend([(2, whole.bins), (3, bins), (2, bins), (0, 0)].map(|(places, bins)| Given { places, bins, ..whole.clone() }));
+        let table = whole.table - 1;
+        all.extend([(2, whole.table), (3, table), (2, table), (0, 0)].map(|(places, table)| Given { places, table, ..whole.clone() }));
     }
     for list in faults::large_lists() {
         let whole = enough(Settings { set_size: 3, ..short() }, list);
         // 5 and 4 come before 6.
-        all.push(Given { bins: 0, ..whole.clone() });
+        all.push(Given { table: 0, ..whole.clone() });
         all.push(whole);
     }
     all
@@ -116,8 +116,8 @@ fn with_settings() -> Vec<Given> {
 
 /// A refusal with its number and nothing altered; without a fault, the comparison with the Rust.
 pub fn check(block: &mut Block, given: &Given) -> Checked {
-    let Given { settings, list, places, bins } = given;
-    let Err(due) = rules::prover(settings, list, *places, *bins) else {
+    let Given { settings, list, places, table } = given;
+    let Err(due) = rules::prover(settings, list, *places, *table) else {
         return searches::check(block, settings, list).map(|_| ());
     };
     if due == ffi::NOT_ENOUGH {
@@ -129,19 +129,19 @@ pub fn check(block: &mut Block, given: &Given) -> Checked {
     let rng = &mut block.rng;
     let out_len = [0, 2, 3, 3, 3, 5][rng.below(6) as usize];
     let places = Fenced::new(rng, *places, |word| word as u32);
-    let bins = Fenced::new(rng, *bins, |word| word as u32);
+    let table = Fenced::new(rng, *table, |word| word as u32);
     let out = Fenced::new(rng, out_len, |word| word);
-    refuse(block, settings, list, due, (places, bins, out))
+    refuse(block, settings, list, due, (places, table, out))
 }
 
 type Lent = (Fenced<u32>, Fenced<u32>, Fenced<u64>);
 
 fn refuse(block: &mut Block, settings: &Settings, list: &List, due: u32, lent: Lent) -> Checked {
-    let (mut places, mut bins, mut out) = lent;
+    let (mut places, mut table, mut out) = lent;
     let after = list.clone();
-    let ours = ffi::prove(settings, after.lent(), &mut places, &mut bins, &mut out);
+    let ours = ffi::prove(settings, after.lent(), &mut places, &mut table, &mut out);
     let result = if out.len() < 3 { &[][..] } else { &[0; 3] };
-    if ours == due && places.holds(&[]) && bins.holds(&[]) && out.holds(result) && after == *list {
+    if ours == due && places.holds(&[]) && table.holds(&[]) && out.holds(result) && after == *list {
         block.tally.count("prove", ours);
         return Ok(());
     }
@@ -151,7 +151,7 @@ fn refuse(block: &mut Block, settings: &Settings, list: &List, due: u32, lent: L
         shown_list(list),
         out.story("R, S and count", result),
         places.story("places", &[]),
-        bins.story("bin table", &[]),
+        table.story("bin table", &[]),
         super::verdicts::as_it_was(after == *list)
     ))
 }
@@ -163,12 +163,12 @@ fn nulls(block: &mut Block) -> Checked {
         |rng: &mut Rng| (Fenced::null(rng, |word| word as u32), Fenced::null(rng, |word| word as u32), Fenced::null(rng, |word| word));
     let given = lent(&mut block.rng);
     refuse(block, &short(), &list, ffi::TOO_SHORT, given)?;
-    let (mut places, mut bins, mut out) = lent(&mut block.rng);
+    let (mut places, mut table, mut out) = lent(&mut block.rng);
     let nothing = ffi::Listed { data: None, ends: None, marks: None, indexes: None };
-    let ours = ffi::prove(&short(), nothing, &mut places, &mut bins, &mut out);
-    let mut bins = Fenced::new(&mut block.rng, 4, |word| word as u32);
-    let without_places = ffi::prove(&Settings { proof_size: 0, ..short() }, nothing, &mut places, &mut bins, &mut out);
-    if (ours, without_places) != (ffi::TOO_SHORT, ffi::NOT_ENOUGH) || !bins.holds(&[]) {
+    let ours = ffi::prove(&short(), nothing, &mut places, &mut table, &mut out);
+    let mut table = Fenced::new(&mut block.rng, 4, |word| word as u32);
+    let without_places = ffi::prove(&Settings { proof_size: 0, ..short() }, nothing, &mut places, &mut table, &mut out);
+    if (ours, without_places) != (ffi::TOO_SHORT, ffi::NOT_ENOUGH) || !table.holds(&[]) {
         return Err(format!("  null pointers: ours {ours} and {without_places}, due {} and {}", ffi::TOO_SHORT, ffi::NOT_ENOUGH));
     }
     block.tally.count("prove", ours);

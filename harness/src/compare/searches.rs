@@ -86,19 +86,19 @@ pub fn check_and_verify(block: &mut Block, s: &Settings, list: &List) -> Result<
 /// One search of a list that both serve: number, counters, count and places, the bin table, and that nothing else has changed.
 pub fn check(block: &mut Block, s: &Settings, list: &List) -> Result<Outcome, String> {
     let due = due(s, list)?;
-    let table = table_after(s, list, &due);
+    let due_table = table_after(s, list, &due);
     let rng = &mut block.rng;
-    let (places_len, bins_len) = (s.proof_size as usize + more(rng), 3 * s.set_size as usize + 1 + more(rng));
+    let (places_len, table_len) = (s.proof_size as usize + more(rng), 3 * s.set_size as usize + 1 + more(rng));
     let out_len = if rng.below(16) == 0 { rng.below(3) as usize } else { 3 + more(rng) };
     let mut places = Fenced::new(rng, places_len, |word| word as u32);
-    let mut bins = Fenced::new(rng, bins_len, |word| word as u32);
+    let mut table = Fenced::new(rng, table_len, |word| word as u32);
     let mut out = Fenced::new(rng, out_len, |word| word);
     let lent = list.clone();
-    let ours = ffi::prove(s, lent.lent(), &mut places, &mut bins, &mut out);
+    let ours = ffi::prove(s, lent.lent(), &mut places, &mut table, &mut out);
 
     let result = [due.retry_counter, due.search_counter, due.count];
     let result = if out_len < 3 { &[][..] } else { &result };
-    let equal = ours == due.number && places.holds(&due.places) && bins.holds(&table) && out.holds(result) && lent == *list;
+    let equal = ours == due.number && places.holds(&due.places) && table.holds(&due_table) && out.holds(result) && lent == *list;
     if !equal {
         return Err(format!(
             "  {s:?}, q's bits 0x{:016x}\n{}  ours: {ours}\n  the Rust: {}\n{}{}{}{}",
@@ -107,7 +107,7 @@ pub fn check(block: &mut Block, s: &Settings, list: &List) -> Result<Outcome, St
             due.number,
             out.story("R, S and count", result),
             places.story("places", &due.places),
-            bins.story("bin table", &table),
+            table.story("bin table", &due_table),
             if lent == *list { String::new() } else { format!("  the list after:\n{}", shown_list(&lent)) }
         ));
     }

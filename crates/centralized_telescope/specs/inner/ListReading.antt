@@ -1,4 +1,4 @@
--- A lent list as the code reads it. ElementsLaws and WrittenOutLaws tie this to `elements`, and the proofs to `listCheck`.
+-- A lent list as the code reads it. ElementsLaws and ProofListLaws tie this to `elements`, and the proofs to `listCheck`.
 use mathlib.Core.Bool.{Bool, cond, not, _||_}
 use mathlib.Core.List.{List, [], _∷_, _++_}
 use mathlib.Core.Option.{Option}

@@ -13,13 +13,13 @@ use lib.Dec.{T, eqb}
 use lib.ListN.{length, take, drop, getD, set, length-append, take-append-drop, drop-of-length-le}
 use lib.Seq.{slice, take-at, take-take, take-suc, take-set-le, take-set-lt, drop-cons, drop-drop, drop-set-lt, set-at, length-take-le}
 use Rattle.centralized_telescope.specs.laws.TestLaws.{neither, lt-or-le}
-use Rattle.centralized_telescope.specs.Lists.{Pairwise, Each, someOf, firstOf, upToFirst, firstNumber, over}
+use Rattle.centralized_telescope.specs.Lists.{Ascending, Each, someOf, firstOf, upToFirst, firstNumber, over}
 
 -- a list in order followed by another, each of whose elements comes after all of the first
-pub pairwise-append : {A : Type 0} (R : A → A → Type 0) (xs ys : List A) → Pairwise R xs → Pairwise R ys
+pub pairwise-append : {A : Type 0} (R : A → A → Type 0) (xs ys : List A) → Ascending R xs → Ascending R ys
     → ((x y : A) → List·Memᴰ x xs → List·Memᴰ y ys → R x y)
-    → Pairwise R (xs ++ ys)
-unfolding Pairwise
+    → Ascending R (xs ++ ys)
+unfolding Ascending
 pairwise-append R [] ys p q r = q
 pairwise-append R (x ∷ xs) ys p q r = (
   λ y m. ⊎-elim (λ l. p .0 y l) (λ l. r x y (List·Memᴰ·head refl) l) (List·Memᴰ·append-cases xs m),
@@ -142,8 +142,8 @@ module _ {A : Type 0} (test : A → Bool) where
     pub yes : test x ≡ true
     pub first : (y : A) → List·Memᴰ y xs → test y ≡ true → (x ≡ y) ⊎ R x y
 
-  pub first-some : (R : A → A → Type 0) (xs : List A) → Pairwise R xs → (x : A) → firstOf test xs ≡ some x → First R xs x
-  unfolding firstOf Pairwise
+  pub first-some : (R : A → A → Type 0) (xs : List A) → Ascending R xs → (x : A) → firstOf test xs ≡ some x → First R xs x
+  unfolding firstOf Ascending
   first-some R [] p x e = let z : _≡_ {A = ℕ} 0 1 = cc in absurd (omega arith)
   first-some R (y ∷ xs) p x e = go (test y) refl e (first-some R xs (p .1) x)
     where
@@ -188,19 +188,19 @@ module _ {A : Type 0} (test : A → Bool) where
       go false rest m = ⊎-elim (λ e. List·Memᴰ·head e) (λ l. List·Memᴰ·tail (rest l)) (List·Memᴰ·cases-cons m)
 
   module _ (R : A → A → Type 0) where
-    pub prefix-pairwise : (xs : List A) → Pairwise R xs → Pairwise R (prefixTo xs)
-    unfolding prefixTo Pairwise
+    pub prefix-pairwise : (xs : List A) → Ascending R xs → Ascending R (prefixTo xs)
+    unfolding prefixTo Ascending
     prefix-pairwise [] p = tt
     prefix-pairwise (x ∷ xs) p = go (test x) (prefix-pairwise xs (p .1))
       where
-        go : (b : Bool) → Pairwise R (prefixTo xs) → Pairwise R (cond b (x ∷ []) (x ∷ prefixTo xs))
+        go : (b : Bool) → Ascending R (prefixTo xs) → Ascending R (cond b (x ∷ []) (x ∷ prefixTo xs))
         go true rest = ((λ y m. absurd (List·Memᴰ·not-nil m)), tt)
         go false rest = ((λ y m. p .0 y (prefix-among xs y m)), rest)
 
     -- each of them is, or stands before, each for which the test says yes
-    pub prefix-before : (xs : List A) → Pairwise R xs → (c : A) → List·Memᴰ c (prefixTo xs)
+    pub prefix-before : (xs : List A) → Ascending R xs → (c : A) → List·Memᴰ c (prefixTo xs)
         → (d : A) → List·Memᴰ d xs → test d ≡ true → (c ≡ d) ⊎ R c d
-    unfolding prefixTo Pairwise
+    unfolding prefixTo Ascending
     prefix-before [] p c m d l t = absurd (List·Memᴰ·not-nil m)
     prefix-before (x ∷ xs) p c m d l t = go (test x) refl m (λ k n. prefix-before xs (p .1) c k d n t)
       where
@@ -219,10 +219,10 @@ module _ {A : Type 0} (test : A → Bool) where
 
     module _ (asymmetric : (a b : A) → R a b → R b a → ⊥) where
       -- and there are no others
-      pub before-prefix : (xs : List A) → Pairwise R xs → (c : A) → List·Memᴰ c xs
+      pub before-prefix : (xs : List A) → Ascending R xs → (c : A) → List·Memᴰ c xs
           → ((d : A) → List·Memᴰ d xs → test d ≡ true → (c ≡ d) ⊎ R c d)
           → List·Memᴰ c (prefixTo xs)
-      unfolding prefixTo Pairwise
+      unfolding prefixTo Ascending
       before-prefix [] p c m u = m
       before-prefix (x ∷ xs) p c m u = go (test x) refl (List·Memᴰ·cases-cons m) (λ k. before-prefix xs (p .1) c k (λ d l t. u d (List·Memᴰ·tail l) t))
         where
@@ -237,8 +237,8 @@ module _ {A : Type 0} (test : A → Bool) where
 -- ---- two lists in order, one among the other
 
 module _ {A : Type 0} (R : A → A → Type 0) (asymmetric : (a b : A) → R a b → R b a → ⊥) where
-  pub no-longer : (ys xs : List A) → Pairwise R xs → Pairwise R ys → ((x : A) → List·Memᴰ x xs → List·Memᴰ x ys) → length xs ≤ length ys
-  unfolding Pairwise
+  pub no-longer : (ys xs : List A) → Ascending R xs → Ascending R ys → ((x : A) → List·Memᴰ x xs → List·Memᴰ x ys) → length xs ≤ length ys
+  unfolding Ascending
   no-longer ys [] p q u = omega arith
   no-longer [] (x ∷ xs) p q u = absurd (List·Memᴰ·not-nil (u x (List·Memᴰ·head refl)))
   no-longer (y ∷ ys) (x ∷ xs) p q u =

@@ -8,7 +8,7 @@ use native.Mathlib.Nat.{eq-or-lt-of-le}
 use native.Mathlib.Omega.{arith}
 use lib.ListN.{length}
 use Rattle.centralized_telescope.specs.Elements.{Element, elementAt}
-use Rattle.centralized_telescope.specs.Lists.{Pairwise, Each}
+use Rattle.centralized_telescope.specs.Lists.{Ascending, Each}
 use Rattle.centralized_telescope.specs.laws.ListsLaws.{pairwise-append, each-nil, each-cons, each-head, each-rest}
 use Rattle.centralized_telescope.specs.Rounds.{startHash}
 use Rattle.centralized_telescope.specs.Chains.{Try, Chain, Grows, ElementsExist, Exists, PlacesBefore, Before}
@@ -141,10 +141,10 @@ module _ (T : Try) where
   Starts grow = (h : List ℕ) (j : ℕ) (ps : List ℕ) (c : Chain) → j < N → List·Memᴰ c (grow h j ps) → (r : List ℕ) × (c .places ≡ ps ++ r)
 
   abbrev Sorts : Grow → Type 0
-  Sorts grow = (h : List ℕ) (j : ℕ) (ps : List ℕ) → j < N → Pairwise Earlier (grow h j ps)
+  Sorts grow = (h : List ℕ) (j : ℕ) (ps : List ℕ) → j < N → Ascending Earlier (grow h j ps)
 
-  along-sorted : (grow : Grow) (h ps es : List ℕ) → Pairwise _<_ es → Sorts grow → Starts grow → Pairwise Earlier (along T grow h ps es)
-  unfolding along grown Pairwise
+  along-sorted : (grow : Grow) (h ps es : List ℕ) → Ascending _<_ es → Sorts grow → Starts grow → Ascending Earlier (along T grow h ps es)
+  unfolding along grown Ascending
   along-sorted grow h ps [] a s k = tt
   along-sorted grow h ps (e ∷ es) a s k =
       pairwise-append Earlier (grown T grow (idOf T (nextAt T h e)) (nextAt T h e) (ps ++ (e ∷ []))) (along T grow h ps es)
@@ -155,7 +155,7 @@ module _ (T : Try) where
       let u = k (nextAt T h (b .place)) (b .id) (ps ++ (b .place ∷ [])) y (id-below T _ _ (b .id-is)) (b .grows) in
       forked ps e (b .place) (r .0) (u .0) (x .places) (y .places) (a .0 (b .place) (b .among)) (r .1) (u .1))
     where
-      sorted : (d : Option ℕ) → idOf T (nextAt T h e) ≡ d → Pairwise Earlier (grown T grow d (nextAt T h e) (ps ++ (e ∷ [])))
+      sorted : (d : Option ℕ) → idOf T (nextAt T h e) ≡ d → Ascending Earlier (grown T grow d (nextAt T h e) (ps ++ (e ∷ [])))
       sorted none q = tt
       sorted (some j) q = s (nextAt T h e) j (ps ++ (e ∷ [])) (id-below T _ _ q)
 
@@ -168,7 +168,7 @@ module _ (T : Try) where
   chains-start S k h j ps c l m = let s = sound S k h j ps c l m in (s .more, s .places-are)
 
   chains-sorted : (S k : ℕ) → Sorts (chains T S k)
-  unfolding chains Pairwise
+  unfolding chains Ascending
   chains-sorted S zero h i ps l = ((λ y m. absurd (List·Memᴰ·not-nil m)), tt)
   chains-sorted S (suc k) h i ps l = (
     λ y m.
@@ -212,18 +212,18 @@ module _ (T : Try) where
       (Memᴰ·cast (ap (λ (x : ℕ). chain x (c .places) (c .last)) (s .search-is))
       (complete S (T .settings .«proof_size») (start S) (s .rounds .0) [] (c .places) (c .last) (s .at-most) (s .kept) (s .rounds .2)))
 
-  at-sorted : (S : ℕ) → Pairwise Before (chainsAt T S)
-  unfolding chainsAt grown Pairwise
+  at-sorted : (S : ℕ) → Ascending Before (chainsAt T S)
+  unfolding chainsAt grown Ascending
   at-sorted S = go (idOf T (start S)) refl
     where
-      one : (l : List Chain) → ((c : Chain) → List·Memᴰ c l → c .search ≡ S) → Pairwise Earlier l → Pairwise Before l
+      one : (l : List Chain) → ((c : Chain) → List·Memᴰ c l → c .search ≡ S) → Ascending Earlier l → Ascending Before l
       one [] q p = tt
       one (x ∷ xs) q p = (
         λ y m. inr (q x (List·Memᴰ·head refl) ∙ sym (q y (List·Memᴰ·tail m)), p .0 y m),
         one xs (λ c m. q c (List·Memᴰ·tail m)) (p .1),
       )
 
-      go : (d : Option ℕ) → idOf T (start S) ≡ d → Pairwise Before (grown T (chains T S (T .settings .«proof_size»)) d (start S) [])
+      go : (d : Option ℕ) → idOf T (start S) ≡ d → Ascending Before (grown T (chains T S (T .settings .«proof_size»)) d (start S) [])
       go none q = tt
       go (some i) q =
           one (chains T S (T .settings .«proof_size») (start S) i [])
@@ -251,8 +251,8 @@ module _ (T : Try) where
       (λ g. Memᴰ·append-right (chainsAt T S) (from-complete w (S + 1) c (omega arith) (omega arith) s))
       (eq-or-lt-of-le l)
 
-  from-sorted : (w S : ℕ) → Pairwise Before (chainsFrom T w S)
-  unfolding chainsFrom Pairwise
+  from-sorted : (w S : ℕ) → Ascending Before (chainsFrom T w S)
+  unfolding chainsFrom Ascending
   from-sorted zero S = tt
   from-sorted (suc w) S =
       pairwise-append Before (chainsAt T S) (chainsFrom T w (S + 1)) (at-sorted S) (from-sorted w (S + 1))
@@ -281,5 +281,5 @@ module _ (T : Try) where
       (record { search-is = refl; at-most = x .at-most; kept = x .kept-places; rounds = x .rounds })
 
   -- they stand in the search's order, and so each stands there once
-  pub in-order : Pairwise Before (existing T)
+  pub in-order : Ascending Before (existing T)
   in-order = from-sorted (T .settings .«search_width») 0

@@ -12,7 +12,7 @@ use lib.Ieee.Fits.{up-pos, and-l, and-r}
 use Rattle.sampling.specs.Sample.{outside, outsideUnit, threshold}
 use Rattle.centralized_telescope.specs.declared.params.Params.{Params}
 use Rattle.centralized_telescope.specs.declared.params.SmallSettings.{SmallSettings}
-use Rattle.centralized_telescope.specs.Params.{setSizeOut, checked, floor, ceil, whole, L, beforeCeil, searchWidth, probability, beforeFloor, dfsBound, smallSettings, zeros, proofSizeOut, completenessOut, smallCase}
+use Rattle.centralized_telescope.specs.Params.{setSizeOut, checked, floor, ceil, asDouble, L, beforeCeil, searchWidth, probability, beforeFloor, dfsBound, smallSettings, zeros, proofSizeOut, completenessOut, smallCase}
 use Rattle.centralized_telescope.specs.laws.TestLaws.{neither}
 use Rattle.centralized_telescope.specs.laws.ParamsLaws.{one-to, Limits, passes}
 
@@ -106,7 +106,7 @@ passesUpTo zero = true
 passesUpTo (suc k) = passesAt (suc k) && passesUpTo k
 
 computed : T (passesUpTo 1024)
-unfolding isNan lt ofInt round add mul div outside ceil whole L beforeCeil searchWidth probability beforeFloor passesUpTo
+unfolding isNan lt ofInt round add mul div outside ceil asDouble L beforeCeil searchWidth probability beforeFloor passesUpTo
 computed = tt
 
 from-computed : (k : ℕ) → T (passesUpTo k) → (u : ℕ) → 1 ≤ u → u ≤ k → T (passesAt u)

@@ -6,7 +6,7 @@ use Prim.Native.Nat.{ℕ, _<_}
 use native.Mathlib.Omega.{arith}
 use lib.ListN.{length, getD, length-map}
 use Rattle.centralized_telescope.specs.Elements.{Element, elementAt}
-use Rattle.centralized_telescope.specs.Lists.{Pairwise}
+use Rattle.centralized_telescope.specs.Lists.{Ascending}
 use Rattle.centralized_telescope.specs.laws.ListsLaws.{getD-map}
 use Rattle.centralized_telescope.specs.Rounds.{binOf}
 use Rattle.centralized_telescope.specs.laws.RoundsLaws.{drawnBelow-below}
@@ -48,6 +48,6 @@ module _ (T : Try) where
       bin-has-place (binsOf T) i e (omega (arith, length-binList N (T .retry) (T .kept)))
       (binList-at N (T .retry) (T .kept) e l ∙ ap (λ (o : Option ℕ). Option·getD o N) b)
 
-  pub bin-ascends : (i : ℕ) → Pairwise _<_ (placesIn T i)
+  pub bin-ascends : (i : ℕ) → Ascending _<_ (placesIn T i)
   unfolding placesIn
   bin-ascends i = places-ascend (binsOf T) i

@@ -24,9 +24,10 @@ same-length-3 c = search needs
 
 returns : tie.Need-returns
 returns c =
-    let a = c .before .before .before .before .before .before .before .before .before .before .before .before .before .before .before .before .before .before .before .args in
-    exported-so _ (a .«data» .now) (a .ends .now) (a .marks .now) (a .indexes .now) (a .places .now) (a .bins .now) (a .out .now) (c .before .before .before .before .before .before .before .before .before .prove .result) _ _ _ _
-    (c .before .before .before .before .before .before .before .before .before .prove .ensures) (c .before .before .before .before .numbers-of .ensures) (c .before .before .put-counters .ensures)
+    let at-prove = c .before .before .before .before .before .before .before .before .before in
+    let a = at-prove .before .before .before .before .before .before .before .before .before .before .args in
+    exported-so _ (a .«data» .now) (a .ends .now) (a .marks .now) (a .indexes .now) (a .places .now) (a .table .now) (a .out .now) (at-prove .prove .result) _ _ _ _
+    (at-prove .prove .ensures) (c .before .before .before .before .numbers-of .ensures) (c .before .before .put-counters .ensures)
 
 pub alba-prove-spec : {M : Type 1} → statement M
 alba-prove-spec =

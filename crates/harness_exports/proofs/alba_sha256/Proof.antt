@@ -29,8 +29,8 @@ same-length c = search needs
 
 returns-2 : tie.Need-returns-2
 returns-2 c =
-    let z = c .before .before .before .before .before .before .before .before .before .before .before .before .before .args in
     let h = c .before .before .before .before .before .before .sha256 in
+    let z = c .before .before .before .before .before .before .before .before .before .before .before .before .before .args in
     served (z .a .now ++ (z .b .now ++ (z .c .now ++ z .d .now))) (z .out .now) _ (h .result .digest) (h .result .number) (search needs) (omega arith) (h .ensures) (c .before .before .copy .ensures .1)
 
 pub alba-sha256-spec : {M : Type 1} → statement M

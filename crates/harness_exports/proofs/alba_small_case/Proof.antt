@@ -25,8 +25,8 @@ enum-known-answer c = search needs
 
 put-settings-requires : tie.Need-put-settings-requires
 put-settings-requires c κs =
-    let z = c .before .before .before .before .before .before .before .args in
     let a = c .before .before .answer .given in
+    let z = c .before .before .before .before .before .before .before .args in
     let e = sym (ap smallCaseNumber (a .1)) ∙ c .before .before .before .before .param-small-case .ensures in
     (search needs, inside-no-nan (a .0 .0 .q) (given-unit (z .u) (z .c) (a .0 .0) e))
 
@@ -41,15 +41,16 @@ same-length c = search needs
 
 returns-2 : tie.Need-returns-2
 returns-2 c =
-    let z = c .before .before .before .before .before .before .before .before .before .before .args in
     let a = c .before .before .before .before .before .answer .given in
-    answered (z .u) (z .c) (z .out .now) 0 (a .0 .0) _ (search needs) (sym (ap smallCaseNumber (a .1)) ∙ c .before .before .before .before .before .before .before .param-small-case .ensures)
+    let at-param-small-case = c .before .before .before .before .before .before .before in
+    let z = at-param-small-case .before .before .before .args in
+    answered (z .u) (z .c) (z .out .now) 0 (a .0 .0) _ (search needs) (sym (ap smallCaseNumber (a .1)) ∙ at-param-small-case .param-small-case .ensures)
     (ap (λ (l : List ℕ). (0, l)) (c .before .before .put-settings .ensures))
 
 returns-3 : tie.Need-returns-3
 returns-3 c =
-    let z = c .before .before .before .before .before .before .before .args in
     let a = c .before .before .answer2 .given in
+    let z = c .before .before .before .before .before .before .before .args in
     let k = a .0 .0 in
     answered (z .u) (z .c) (z .out .now) (refusalNumber k) zeros _ (search needs) (sym (ap smallCaseNumber (a .1)) ∙ c .before .before .before .before .param-small-case .ensures)
     (ap (λ (n : ℕ). (n, z .out .now)) (c .refusal-number .ensures) ∙ not-settled (refusalNumber k) zeros (z .out .now) (refusal-number k))

@@ -1,12 +1,12 @@
 -- Laws of numbers in bytes: there are k of them, each is below 256, and read back they make the number.
 use mathlib.Core.Path.{_≡_, refl, sym, ap, _∙_, subst}
 use mathlib.Core.List.{List, [], _∷_, _++_}
-use Prim.Native.Nat.{ℕ, zero, suc, _+_, _*_, _/_, _%_, _^_, _≤_, _<_}
+use Prim.Native.Nat.{ℕ, zero, suc, _+_, _*_, _/_, _%_, _^_, _≤_, _<_, min}
 use native.Mathlib.Nat.{div-add-mod', div-lt-iff-lt-mul, pow-suc, le-of-eq, mod-lt}
 use native.Mathlib.Numerals.{add-one}
 use native.Mathlib.Omega.{arith}
-use lib.ListN.{length, getD, length-append, List·getD-append}
-use lib.Seq.{getD-at}
+use lib.ListN.{length, take, drop, getD, length-append, length-drop, take-append-drop, List·getD-append}
+use lib.Seq.{getD-at, length-take-le}
 use Rattle.sampling.specs.BigEndian.{bigEndian, bytesOf}
 
 pub length-bytesOf : (k v : ℕ) → length (bytesOf k v) ≡ k
@@ -19,6 +19,17 @@ pub bigEndian-append : (k : ℕ) (l m : List ℕ) → k ≤ length l → bigEndi
 unfolding bigEndian
 bigEndian-append zero l m h = refl
 bigEndian-append (suc k) l m h = rw (bigEndian-append k l m (omega arith), List·getD-append)
+
+-- a part of k bytes, 8 at most, read by itself
+module _ (l : List ℕ) (at k : ℕ) (h : at + k ≤ length l) (e : k ≤ 8) where
+  pub part-size : min (length (take k (drop at l))) 8 ≡ k
+  part-size = omega (arith, length-take-le k (drop at l) (omega (arith, length-drop at l)))
+
+  pub part-read : bigEndian (min (length (take k (drop at l))) 8) (take k (drop at l)) ≡ bigEndian k (drop at l)
+  part-read =
+      let m = drop at l in
+      let n = length-take-le k m (omega (arith, length-drop at l)) in
+      rw part-size (sym (bigEndian-append k (take k m) (drop k m) (omega arith)) ∙ ap (bigEndian k) (take-append-drop k m))
 
 pub read-back : (k v : ℕ) → v < 256 ^ k → bigEndian k (bytesOf k v) ≡ v
 unfolding bigEndian bytesOf

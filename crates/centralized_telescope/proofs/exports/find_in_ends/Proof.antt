@@ -7,7 +7,7 @@ use borrow.Author.Needs.{needs}
 use lib.ListN.{length, drop}
 use Rattle.centralized_telescope.specs.Elements.{endWrong, dataLong}
 use Rattle.centralized_telescope.specs.Exports.{numbersOf}
-use Rattle.centralized_telescope.proofs.ListFaults.{ends-done, data-done, end-found, data-found, none-left}
+use Rattle.centralized_telescope.proofs.ListFaults.{end-next, data-next, ends-done, data-done, one-more, none-left}
 use Rattle.centralized_telescope.proofs.NumbersRead.{length-numbersIn}
 use Rattle.centralized_telescope.proofs.exports.find_in_ends.Statement.{statement}
 use Rattle.centralized_telescope.proofs.exports.find_in_ends.Tie as tie
@@ -27,42 +27,45 @@ loop-holds c = (search needs, refl, refl)
 end-at-requires : tie.Need-end-at-requires Inv-loop μ-loop
 end-at-requires c κs = omega arith
 
-slice-aggregate-some-end-wrong : tie.Need-slice-aggregate-some-end-wrong Inv-loop μ-loop
-slice-aggregate-some-end-wrong c = search needs
+wide-requires : tie.Need-wide-requires Inv-loop μ-loop
+wide-requires c κs = search needs
 
-some-end-wrong-requires : tie.Need-some-end-wrong-requires Inv-loop μ-loop
-some-end-wrong-requires c κs = search needs
+is-end-wrong-requires : tie.Need-is-end-wrong-requires Inv-loop μ-loop
+is-end-wrong-requires c κs = search needs
 
 either-requires : tie.Need-either-requires Inv-loop μ-loop
 either-requires c κs = search needs
 
-slice-aggregate-some-data-long : tie.Need-slice-aggregate-some-data-long Inv-loop μ-loop
-slice-aggregate-some-data-long c = search needs
-
-some-data-long-requires : tie.Need-some-data-long-requires Inv-loop μ-loop
-some-data-long-requires c κs = search needs
+is-data-long-requires : tie.Need-is-data-long-requires Inv-loop μ-loop
+is-data-long-requires c κs = search needs
 
 either-requires-2 : tie.Need-either-requires-2 Inv-loop μ-loop
 either-requires-2 c κs = search needs
 
+-- from the end of a turn to where it began
+abbrev turn : tie.After-either2 Inv-loop μ-loop → tie.In-loop Inv-loop μ-loop
+turn c = c .before .before .before .before .before .before
+
 add-i : tie.Need-add-i Inv-loop μ-loop
-add-i c = omega (arith, c .before .before .before .before .before .before .before .loop-test .taken)
+add-i c = omega (arith, turn c .loop-test .taken)
 
 loop-less : tie.Need-loop-less Inv-loop μ-loop
-loop-less c = omega (arith, c .before .before .before .before .before .before .before .loop-test .taken)
+loop-less c = omega (arith, turn c .loop-test .taken)
 
 loop-again : tie.Need-loop-again Inv-loop μ-loop
 loop-again c =
-    let t = c .before .before .before .before .before .before .before in
+    let t = turn c in
     let l = t .before .loop in
-    let a = c .before .before .before .before .before .before .before .before .before .before .args in
+    let a = t .before .before .before .args in
     let ns = numbersOf 4 (a .ends .now) in
     let h : l .i < length ns = omega (arith, length-numbersIn (length (a .ends .now) / 4) 4 (a .ends .now), t .loop-test .taken) in
-    let e = c .before .before .before .before .before .before .end-at in (
+    let w = c .before .before .before .before in
+    let e = w .wide .ensures .0 ∙ w .before .end-at .ensures in
+    let d = c .before .before .before .is-end-wrong in
+    let f = c .before .is-data-long in (
       omega (arith, t .loop-test .taken),
-      end-found ns (l .i) (l .from) (e .result) (l .wrong) _ _ h (e .ensures) (c .before .before .before .either .ensures) (a .limit)
-          (c .before .before .before .before .some-end-wrong .ensures) ∙ l .inv .1,
-      data-found ns (l .i) (l .from) (e .result) (l .long) _ _ h (e .ensures) (c .either2 .ensures) (c .before .some-data-long .ensures) ∙ l .inv .2,
+      one-more (l .wrong) (d .result) _ _ _ (c .before .before .either .ensures) (end-next ns (l .i) (l .from) (w .wide .result) h e (d .result) (d .result) (a .limit) (d .ensures) refl) ∙ l .inv .1,
+      one-more (l .long) (f .result) _ _ _ (c .either2 .ensures) (data-next ns (l .i) (l .from) (w .wide .result) h e (f .result) (f .result) (f .ensures) refl) ∙ l .inv .2,
     )
 
 returns : tie.Need-returns Inv-loop μ-loop
@@ -71,7 +74,7 @@ returns c =
     let a = c .before .before .before .args in
     let ns = numbersOf 4 (a .ends .now) in
     let h : length ns ≤ l .i = omega (arith, length-numbersIn (length (a .ends .now) / 4) 4 (a .ends .now), c .loop-test .left) in
-    (none-left (l .wrong) _ _ (ends-done ns (l .i) (l .from) (a .limit) 0 h) (l .inv .1), none-left (l .long) _ _ (data-done ns (l .i) (l .from) 0 h) (l .inv .2))
+    (none-left (l .wrong) _ _ (ends-done ns (l .i) (l .from) h (a .limit)) (l .inv .1), none-left (l .long) _ _ (data-done ns (l .i) (l .from) h) (l .inv .2))
 
 pub find-in-ends-spec : {M : Type 1} → statement M
 find-in-ends-spec =
@@ -81,11 +84,10 @@ find-in-ends-spec =
     μ-loop
     loop-holds
     end-at-requires
-    slice-aggregate-some-end-wrong
-    some-end-wrong-requires
+    wide-requires
+    is-end-wrong-requires
     either-requires
-    slice-aggregate-some-data-long
-    some-data-long-requires
+    is-data-long-requires
     either-requires-2
     add-i
     loop-less

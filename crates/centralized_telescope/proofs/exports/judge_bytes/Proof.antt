@@ -30,7 +30,9 @@ array-borrow-prefix-index-numbers : tie.Need-array-borrow-prefix-index-numbers
 array-borrow-prefix-index-numbers c = search needs
 
 slice-aggregate-read-indexes : tie.Need-slice-aggregate-read-indexes
-slice-aggregate-read-indexes c = sym (length-take-le _ _ (c .before .before .before .before .before .before .before .before .pre .2))
+slice-aggregate-read-indexes c =
+    let o = c .before .before .before .before .before .before .before .before in
+    sym (length-take-le _ _ (o .pre .2))
 
 read-indexes-requires : tie.Need-read-indexes-requires
 read-indexes-requires c κs =
@@ -39,34 +41,40 @@ read-indexes-requires c κs =
 
 array-share-prefix-end-numbers : tie.Need-array-share-prefix-end-numbers
 array-share-prefix-end-numbers c =
+    let there = c .before .before .before .before .before .before .before .before .before .before in
     front-fits _ _ _ _ (c .before .before .before .before .read-ends .ensures)
-    (ends-read (c .before .before .before .before .before .before .before .before .before .before))
+    (ends-read there)
 
 slice-aggregate-judge : tie.Need-slice-aggregate-judge
 slice-aggregate-judge c =
+    let there = c .before .before .before .before .before .before .before .before .before .before .before in
     front-length _ _ _ _ (c .before .before .before .before .before .read-ends .ensures)
-    (ends-read (c .before .before .before .before .before .before .before .before .before .before .before))
+    (ends-read there)
 
 array-share-prefix-index-numbers : tie.Need-array-share-prefix-index-numbers
 array-share-prefix-index-numbers c =
+    let there = c .before .before .before .before .before .before .before .before .before .before .before in
     front-fits _ _ _ _ (c .before .before .read-indexes .ensures)
-    (indexes-read (c .before .before .before .before .before .before .before .before .before .before .before))
+    (indexes-read there)
 
 slice-aggregate-judge-2 : tie.Need-slice-aggregate-judge-2
 slice-aggregate-judge-2 c =
+    let there = c .before .before .before .before .before .before .before .before .before .before .before .before in
     front-length _ _ _ _ (c .before .before .before .read-indexes .ensures)
-    (indexes-read (c .before .before .before .before .before .before .before .before .before .before .before .before))
+    (indexes-read there)
 
 judge-requires : tie.Need-judge-requires
 judge-requires c κs =
-    let s = c .before .before .before .before .before .before .before .before .before .before .before .before in
-    (s .pre .0, fronts-accepted _ (s .args .«data» .now) (s .args .marks .now) _ _ _ _ _ _ (c .before .before .before .before .before .before .read-ends .ensures) (c .before .before .before .read-indexes .ensures) (ends-read s) (indexes-read s) (s .pre .1))
+    let at-read-ends = c .before .before .before .before .before .before in
+    let s = at-read-ends .before .before .before .before .before .before in
+    (s .pre .0, fronts-accepted _ (s .args .«data» .now) (s .args .marks .now) _ _ _ _ _ _ (at-read-ends .read-ends .ensures) (c .before .before .before .read-indexes .ensures) (ends-read s) (indexes-read s) (s .pre .1))
 
 returns : tie.Need-returns
 returns c =
-    let s = c .before .before .before .before .before .before .before .before .before .before .before .before .before in
+    let at-read-ends = c .before .before .before .before .before .before .before in
+    let s = at-read-ends .before .before .before .before .before .before in
     c .judge .ensures
-    ∙ fronts-judged _ (s .args .«data» .now) (s .args .marks .now) _ _ _ _ _ _ (c .before .before .before .before .before .before .before .read-ends .ensures)
+    ∙ fronts-judged _ (s .args .«data» .now) (s .args .marks .now) _ _ _ _ _ _ (at-read-ends .read-ends .ensures)
     (c .before .before .before .before .read-indexes .ensures) (ends-read s) (indexes-read s) (s .args .p) (s .args .retry .0) (s .args .search .0)
 
 pub judge-bytes-spec : {M : Type 1} → statement M

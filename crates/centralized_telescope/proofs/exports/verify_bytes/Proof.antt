@@ -37,9 +37,10 @@ judged-so : (s : tie.After-enum-told)
     judged (a .p) (a .retry .0) (a .search .0) (elements (a .«data» .now) (numbersOf 4 (a .ends .now)) (a .marks .now) (numbersOf 8 (a .indexes .now)))
     ≡ exportedVerdict (a .p) (a .retry .0) (a .search .0) (a .«data» .now) (a .ends .now) (a .marks .now) (a .indexes .now))
 judged-so s =
-    let a = s .before .before .before .before .before .before .before .before .before .before .before .before .before .args in
+    let there = s .before .before .before .before .before .before in
+    let a = there .before .before .before .before .before .before .before .args in
     left-to-judge (a .p) (a .retry .0) (a .search .0) (a .«data» .now) (numbersOf 4 (a .ends .now)) (a .marks .now) (numbersOf 8 (a .indexes .now))
-    (number-alone (lawful-settings (s .before .before .before .before .before .before))) (accepted s)
+    (number-alone (lawful-settings there)) (accepted s)
     ∙ as-exported (s .before .before .before)
 
 check-params-requires : tie.Need-check-params-requires
@@ -81,24 +82,27 @@ enum-known-k-2 c = search needs
 returns-4 : tie.Need-returns-4
 returns-4 c =
     let s = c .before in
-    let a = s .before .before .before .before .before .before .before .before .before .before .before .before .before .args in
-    list-refused (a .p) (a .retry .0) (a .search .0) (a .«data» .now) (numbersOf 4 (a .ends .now)) (a .marks .now) (numbersOf 8 (a .indexes .now)) (number-alone (lawful-settings (s .before .before .before .before .before .before)))
+    let there = s .before .before .before .before .before .before in
+    let a = there .before .before .before .before .before .before .before .args in
+    list-refused (a .p) (a .retry .0) (a .search .0) (a .«data» .now) (numbersOf 4 (a .ends .now)) (a .marks .now) (numbersOf 8 (a .indexes .now)) (number-alone (lawful-settings there))
     (s .k2 .given .0 .0) (sym (s .before .before .check-bytes .ensures) ∙ ap listNumber (s .k2 .given .1))
     ∙ as-exported (s .before .before .before)
 
 returns-5 : tie.Need-returns-5
 returns-5 c =
     let s = c .before in
-    let a = s .before .before .before .before .before .before .before .before .before .before .before .before .before .args in
+    let there = s .before .before .before .before .before .before in
+    let a = there .before .before .before .before .before .before .before .args in
     over-room (a .p) (a .retry .0) (a .search .0) (a .«data» .now) (numbersOf 4 (a .ends .now)) (a .marks .now) (numbersOf 8 (a .indexes .now)) _
-    (lawful-settings (s .before .before .before .before .before .before)) (accepted s) (c .if3 .taken)
+    (lawful-settings there) (accepted s) (c .if3 .taken)
     ∙ judged-so s
 
 judge-bytes-requires : tie.Need-judge-bytes-requires
 judge-bytes-requires c κs =
     let s = c .before in
     let o = s .before .before .before .before .before .before in
-    (threshold-passed (o .before .before .before .before .before .before .before .args .p) (valueOf (o .x .given .0 .0)) (lawful-settings o), accepted s, c .if3 .left)
+    let start = o .before .before .before .before .before .before .before in
+    (threshold-passed (start .args .p) (valueOf (o .x .given .0 .0)) (lawful-settings o), accepted s, c .if3 .left)
 
 returns-6 : tie.Need-returns-6
 returns-6 c = c .judge-bytes .ensures ∙ judged-so (c .before .before)

@@ -1,72 +1,39 @@
--- `number`: v is what the first i bytes make.
-use mathlib.Core.Path.{_≡_}
-use Prim.Native.Nat.{_+_, _-_, _^_, _≤_, _<_}
+-- `number`: the part of the bytes, read by itself.
+use Prim.Native.Nat.{_+_, _-_}
 use native.Mathlib.Omega.{arith}
 use borrow.Author.Needs.{needs}
-use lib.ListN.{drop, getD}
-use Rattle.sampling.specs.BigEndian.{bigEndian}
-use Rattle.centralized_telescope.proofs.NumbersRead.{none-read, room-for-byte, byte-added, byte-read}
+use Rattle.centralized_telescope.proofs.NumbersRead.{part-number}
 use Rattle.centralized_telescope.proofs.numbers.number.Statement.{statement}
 use Rattle.centralized_telescope.proofs.numbers.number.Tie as tie
 
-abbrev Inv-loop : tie.InvT-loop
-Inv-loop bytes at k v₀ i₀ v i = (i ≤ k) × (v ≡ bigEndian i (drop at bytes)) × (v < 256 ^ i)
+add-end : tie.Need-add-end
+add-end c = search needs
 
-abbrev μ-loop : tie.MeasureT-loop
-μ-loop bytes at k v₀ i₀ v i = k - i
+sub-number-of : tie.Need-sub-number-of
+sub-number-of c = search needs
 
-loop-holds : tie.Need-loop-holds Inv-loop μ-loop
-loop-holds c = (search needs, none-read (c .args .bytes .now) (c .args .at), search needs)
+part-number-of-start : tie.Need-part-number-of-start
+part-number-of-start c = search needs
 
-mul-v : tie.Need-mul-v Inv-loop μ-loop
-mul-v c = let l = c .before .loop in omega (arith, room-for-byte (l .v) (l .i) (l .inv .2) (omega arith))
+part-number-of-end : tie.Need-part-number-of-end
+part-number-of-end c = search needs
 
-add-v : tie.Need-add-v Inv-loop μ-loop
-add-v c = omega arith
+number-of-requires : tie.Need-number-of-requires
+number-of-requires c κs = search needs
 
-shared-slice-read-v : tie.Need-shared-slice-read-v Inv-loop μ-loop
-shared-slice-read-v c = omega arith
-
-cast-v : tie.Need-cast-v Inv-loop μ-loop
-cast-v c = let l = c .before .before .loop in omega (arith, c .shared-slice-known .given (c .before .before .before .args .at + l .i))
-
-add-v-2 : tie.Need-add-v-2 Inv-loop μ-loop
-add-v-2 c = let l = c .before .before .loop in omega (arith, room-for-byte (l .v) (l .i) (l .inv .2) (omega arith), c .shared-slice-known .given (c .before .before .before .args .at + l .i))
-
-add-i : tie.Need-add-i Inv-loop μ-loop
-add-i c = omega arith
-
-loop-less : tie.Need-loop-less Inv-loop μ-loop
-loop-less c = omega arith
-
-loop-again : tie.Need-loop-again Inv-loop μ-loop
-loop-again c =
-    let l = c .before .before .loop in
-    let a = c .before .before .before .args in (
-      omega arith,
-      byte-read (a .bytes .now) (a .at) (l .i) (l .v) (l .inv .1),
-      byte-added (l .v) (l .i) (l .inv .2) (getD (a .bytes .now) (a .at + l .i) 0) (omega (arith, c .shared-slice-known .given (a .at + l .i))),
-    )
-
-returns : tie.Need-returns Inv-loop μ-loop
+returns : tie.Need-returns
 returns c =
-    let l = c .before .loop in
-    let e : l .i ≡ c .before .before .args .k = omega arith in
-    (rw e at (l .inv .1), rw e at (l .inv .2))
+    let o = c .before .before .before in
+    let a = o .args in
+    part-number (a .bytes .now) (a .at) (a .k) (a .at + a .k - a .at) (c .number-of .result) (o .pre .0) (o .pre .1) (omega arith) (c .number-of .ensures)
 
 pub number-spec : {M : Type 1} → statement M
 number-spec =
     tie.close
     (tie.spec
-    Inv-loop
-    μ-loop
-    loop-holds
-    mul-v
-    add-v
-    shared-slice-read-v
-    cast-v
-    add-v-2
-    add-i
-    loop-less
-    loop-again
+    add-end
+    sub-number-of
+    part-number-of-start
+    part-number-of-end
+    number-of-requires
     returns)

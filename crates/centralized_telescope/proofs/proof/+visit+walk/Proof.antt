@@ -132,11 +132,12 @@ visit-same-length t c = search needs
 
 visit-returns : (t : ℕ) → visit-lts.Need-returns (visit-claims t) (visit-at t) visit.Post
 visit-returns t c =
-    let o = c .before .before .before .before .before .before .before .before .before .before .before .before .before .before .before in
+    let at-wide = c .before .before .before .before .before .before in
+    let o = at-wide .before .before .before .before .before .before .before .before .before in
     let a = o .args in
     let T = tryOn (a .p) (a .«data» .now) (a .ends .now) (a .marks .now) (a .indexes .now) (a .retry .0) in
     let l = c .before .before .before .before .before .before .before .before .if1 .taken in
-    let bin = bin-read (o .pre .1 .0) (a .id) (o .pre .1 .1 .0) _ _ (c .before .before .before .before .before .before .wide .ensures .0) (c .before .before .before .before .wide2 .ensures .0) in
+    let bin = bin-read (o .pre .1 .0) (a .id) (o .pre .1 .1 .0) _ _ (at-wide .wide .ensures .0) (c .before .before .before .before .wide2 .ensures .0) in
     by-walk (a .p) (a .depth) _ _ _ _ _ l
     (visited-walk T (a .search .0) (a .h) (a .id) (take (a .depth) (a .path)) (a .depth) (a .steps) (visit-path t o) (o .pre .1 .1 .2) l
     ∙ ap (λ (es : List ℕ). walked T (a .search .0) (a .h) (take (a .depth) (a .path)) (a .depth) es (a .steps + 1)) (sym bin))
@@ -200,6 +201,7 @@ walk-turning : (t : ℕ) (s : walk-Drawn t)
     (walked (tryOn (a .p) (a .«data» .now) (a .ends .now) (a .marks .now) (a .indexes .now) (a .retry .0)) (a .search .0) (a .h) ps (a .depth) (slice (a .from) (a .to) (a .table .now)) (a .steps))
     (s .before .before .wide .result) (s .before .next-hash .result) (s .round-id .result) (v .next) (v .places) (a .places .now))
 walk-turning t s =
+    let test = s .before .before .before .before .before .before in
     let o = walk-entry t s in
     let v = walk-turn t s .loop in
     record {
@@ -207,7 +209,7 @@ walk-turning t s =
       span = o .pre .1 .1 .0;
       still = v .inv .6;
       low = v .inv .0;
-      high = s .before .before .before .before .before .before .loop-test .taken;
+      high = test .loop-test .taken;
       within = s .before .before .before .before .if1 .left;
       place-is = s .before .before .wide .ensures .0;
       hash-is = s .before .next-hash .ensures;
@@ -222,8 +224,9 @@ walk-as-many : (t : ℕ) (s : walk-lts.After-visit (walk-claims t) (walk-at t) w
     → length (s .visit .last .1 .1 .1 .1 .1 .1 .1 .1 .1 .1 .1 .1 .1 .1 .0)
     ≡ length (s .before .before .before .before .before .before .before .before .before .before .before .before .before .before .before .before .before .before .before .args .places .now)
 walk-as-many t s =
+    let turn = s .before .before .before .before .before .before .before .before .before .before .before .before in
     s .visit .kept .1 .1 .1 .1 .1 .1 .1 .1 .1 .1 .1 .1 .1 .1 .0
-    ∙ ap length (s .before .before .before .before .before .before .before .before .before .before .before .before .loop .inv .5)
+    ∙ ap length (turn .loop .inv .5)
 
 walk-loop-holds : (t : ℕ) → walk-lts.Need-loop-holds (walk-claims t) (walk-at t) walk.Post walk-Inv-loop walk-μ-loop
 walk-loop-holds t c = search needs
@@ -233,8 +236,8 @@ walk-same-length t c = search needs
 
 walk-returns : (t : ℕ) → walk-lts.Need-returns (walk-claims t) (walk-at t) walk.Post walk-Inv-loop walk-μ-loop
 walk-returns t c =
-    let a = c .before .before .before .before .before .before .before .before .before .before .args in
     let v = c .before .before .before .loop in
+    let a = c .before .before .before .before .before .before .before .before .before .before .args in
     stopped outcomeOf _ _ _ _
     (at-bound (tryOn (a .p) (a .«data» .now) (a .ends .now) (a .marks .now) (a .indexes .now) (a .retry .0))
     (a .search .0) (a .h) (take (a .depth) (a .path)) (a .depth) (a .to) (a .table .now) (v .i) (v .count) _ (v .inv .6) (c .if1 .taken))
@@ -255,8 +258,8 @@ walk-wide-requires t c κs = search needs
 
 walk-next-hash-requires : (t : ℕ) → walk-lts.Need-next-hash-requires (walk-claims t) (walk-at t) walk.Post walk-Inv-loop walk-μ-loop
 walk-next-hash-requires t c κs =
-    let o = c .before .before .before .before .before .before .before .before .before .before .before .before in
     let v = c .before .before .before .before .before .loop in
+    let o = c .before .before .before .before .before .before .before .before .before .before .before .before in
     let there = entry-there (o .pre .1 .0) (v .i) (omega (arith, o .pre .1 .1 .0 .low, v .inv .0)) (omega (arith, o .pre .1 .1 .0 .high, c .before .before .before .before .loop-test .taken)) in
     (o .pre .1 .0 .list, omega (arith, there, c .wide .ensures .0))
 
@@ -273,15 +276,17 @@ walk-mul-next t c =
 
 walk-array-write-next : (t : ℕ) → walk-lts.Need-array-write-next (walk-claims t) (walk-at t) walk.Post walk-Inv-loop walk-μ-loop
 walk-array-write-next t c =
-    let o = c .before .before .before .before .before .before .before .before .before .before .before .before .before .before .before .before .before in
-    omega (arith, proof-size-most (o .pre .1 .0), o .pre .1 .1 .1 .0, c .before .before .before .before .before .before .before .before .before .before .loop .inv .3)
+    let turn = c .before .before .before .before .before .before .before .before .before .before in
+    let o = turn .before .before .before .before .before .before .before in
+    omega (arith, proof-size-most (o .pre .1 .0), o .pre .1 .1 .1 .0, turn .loop .inv .3)
 
 walk-add-visit : (t : ℕ) → walk-lts.Need-add-visit (walk-claims t) (walk-at t) walk.Post walk-Inv-loop walk-μ-loop
 walk-add-visit t c = search needs
 
 walk-visit-requires : (t : ℕ) → walk-lts.Need-visit-requires (walk-claims t) (walk-at t) walk.Post walk-Inv-loop walk-μ-loop
 walk-visit-requires t c κs =
-    let o = c .before .before .before .before .before .before .before .before .before .before .before .before .before .before .before .before .before .before in
+    let at-if1 = c .before .before .before .before .before .before .before .before in
+    let o = at-if1 .before .before .before .before .before .before .before .before .before .before in
     let a = o .args in
     let v = c .before .before .before .before .before .before .before .before .before .before .before .loop in
     let T = tryOn (a .p) (a .«data» .now) (a .ends .now) (a .marks .now) (a .indexes .now) (a .retry .0) in (
@@ -292,7 +297,7 @@ walk-visit-requires t c κs =
         (
           id-below T _ _ (sym (c .before .before .before .before .round-id .ensures) ∙ ap idOption (c .before .before .drawn .given .1)),
           omega (arith, o .pre .1 .1 .1 .0),
-          c .before .before .before .before .before .before .before .before .if1 .left,
+          at-if1 .if1 .left,
         ),
       ),
     )
@@ -311,24 +316,36 @@ walk-write-places-requires t c κs =
     (proof-size-most (o .pre .1 .0), omega (arith, o .pre .1 .0 .roomy, walk-as-many t s))
 
 walk-same-length-2 : (t : ℕ) → walk-lts.Need-same-length-2 (walk-claims t) (walk-at t) walk.Post walk-Inv-loop walk-μ-loop
-walk-same-length-2 t c = c .before .before .write-places .kept .1 .1 .0 ∙ walk-as-many t (c .before .before .before .before .before .before .before .before .before .before)
+walk-same-length-2 t c =
+    let there = c .before .before .before .before .before .before .before .before .before .before in
+    c .before .before .write-places .kept .1 .1 .0 ∙ walk-as-many t there
 
 walk-returns-2 : (t : ℕ) → walk-lts.Need-returns-2 (walk-claims t) (walk-at t) walk.Post walk-Inv-loop walk-μ-loop
 walk-returns-2 t c =
-    turn-write (walk-turning t (c .before .before .before .before .before .before .before .before .before .before .before .before .before .before .before)) _
-    (c .before .before .before .before .before .before .before .before .before .before .before .before .before .drawn .given .1) _ _
-    (c .before .before .before .before .before .before .before .before .before .before .visit .ensures)
-    _ (c .before .before .before .before .before .before .outcome .given .1) (c .before .before .before .before .if2 .taken) _ (c .before .before .write-places .ensures)
+    let at-outcome = c .before .before .before .before .before .before in
+    let at-visit = at-outcome .before .before .before .before in
+    let at-drawn = at-visit .before .before .before in
+    let there = at-drawn .before .before in
+    turn-write (walk-turning t there) _
+    (at-drawn .drawn .given .1) _ _
+    (at-visit .visit .ensures)
+    _ (at-outcome .outcome .given .1) (c .before .before .before .before .if2 .taken) _ (c .before .before .write-places .ensures)
 
 walk-same-length-3 : (t : ℕ) → walk-lts.Need-same-length-3 (walk-claims t) (walk-at t) walk.Post walk-Inv-loop walk-μ-loop
-walk-same-length-3 t c = walk-as-many t (c .before .before .before .before .before .before)
+walk-same-length-3 t c =
+    let there = c .before .before .before .before .before .before in
+    walk-as-many t there
 
 walk-returns-3 : (t : ℕ) → walk-lts.Need-returns-3 (walk-claims t) (walk-at t) walk.Post walk-Inv-loop walk-μ-loop
 walk-returns-3 t c =
-    turn-found (walk-turning t (c .before .before .before .before .before .before .before .before .before .before .before)) _
-    (c .before .before .before .before .before .before .before .before .before .drawn .given .1) _ _ (c .before .before .before .before .before .before .visit .ensures)
+    let at-visit = c .before .before .before .before .before .before in
+    let at-drawn = at-visit .before .before .before in
+    let there = at-drawn .before .before in
+    let o = there .before .before .before .before .before .before .before .before .before .before .before .before .before .before in
+    turn-found (walk-turning t there) _
+    (at-drawn .drawn .given .1) _ _ (at-visit .visit .ensures)
     _ (c .before .before .outcome .given .1)
-    (c .before .before .before .before .before .before .before .before .before .before .before .before .before .before .before .before .before .before .before .before .before .before .before .before .before .pre .1 .1 .1 .0) (c .if2 .left)
+    (o .pre .1 .1 .1 .0) (c .if2 .left)
 
 walk-enum-known-outcome-2 : (t : ℕ) → walk-lts.Need-enum-known-outcome-2 (walk-claims t) (walk-at t) walk.Post walk-Inv-loop walk-μ-loop
 walk-enum-known-outcome-2 t c = search needs
@@ -344,8 +361,8 @@ walk-loop-less t c = search needs
 
 walk-loop-again : (t : ℕ) → walk-lts.Need-loop-again (walk-claims t) (walk-at t) walk.Post walk-Inv-loop walk-μ-loop
 walk-loop-again t c =
-    let a = c .before .before .before .before .before .before .before .before .before .before .before .before .before .before .before .args in
     let v = c .before .before .before .before .before .before .before .before .loop in
+    let a = c .before .before .before .before .before .before .before .before .before .before .before .before .before .before .before .args in
     let e = getD (a .table .now) (v .i) 0 in
     let T = tryOn (a .p) (a .«data» .now) (a .ends .now) (a .marks .now) (a .indexes .now) (a .retry .0) in
     let k = walk-turning t (c .before) in
@@ -378,8 +395,8 @@ walk-same-length-4 t c = search needs
 
 walk-returns-4 : (t : ℕ) → walk-lts.Need-returns-4 (walk-claims t) (walk-at t) walk.Post walk-Inv-loop walk-μ-loop
 walk-returns-4 t c =
-    let a = c .before .before .before .before .before .before .before .before .args in
     let v = c .before .loop in
+    let a = c .before .before .before .before .before .before .before .before .args in
     stopped outcomeOf _ _ _ _
     (at-end (tryOn (a .p) (a .«data» .now) (a .ends .now) (a .marks .now) (a .indexes .now) (a .retry .0))
     (a .search .0) (a .h) (take (a .depth) (a .path)) (a .depth) (a .to) (a .table .now) (v .i) (v .count) _ (v .inv .6) (c .loop-test .left) (v .inv .1))

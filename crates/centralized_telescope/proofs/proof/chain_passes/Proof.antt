@@ -71,8 +71,8 @@ enum-told c = search needs
 
 returns : tie.Need-returns Inv-loop μ-loop
 returns c =
-    let a = c .before .before .before .before .before .before .before .before .args in
     let start = c .before .before in
+    let a = start .before .before .before .before .before .before .args in
     ap (yesOn (a .p .q)) (sym (no-start (a .p) (a .retry .0) _ (a .search .0) _ (start .before .start-hash .ensures) (nowhere _ _ (start .round-id .ensures) (c .enum-told .given .1))))
 
 loop-holds : tie.Need-loop-holds Inv-loop μ-loop
@@ -104,7 +104,9 @@ returns-3 c =
     refused l (reached l ∙ other-bin (a .p) (a .retry .0) (list l) _ _ _ (within l (t .loop-test .taken)) _ (somewhere _ _ _ (b .bin-hash .ensures) (d .drawn .given .1)) (c .if1 .taken))
 
 next-hash-requires : tie.Need-next-hash-requires Inv-loop μ-loop
-next-hash-requires c κs = (entry (c .before .before .before .before .before .before) .pre .1, c .before .before .before .before .before .loop-test .taken)
+next-hash-requires c κs =
+    let there = c .before .before .before .before .before .before in
+    (entry there .pre .1, c .before .before .before .before .before .loop-test .taken)
 
 round-id-requires-2 : tie.Need-round-id-requires-2 Inv-loop μ-loop
 round-id-requires-2 c κs = search needs
@@ -131,10 +133,14 @@ returns-4 c =
 
 add-followed : tie.Need-add-followed Inv-loop μ-loop
 add-followed c =
-    omega (arith, c .before .before .before .before .before .before .before .before .before .before .loop-test .taken, entry (c .before .before .before .before .before .before .before .before .before .before .before) .good .1 .1 .1 .1 .1 .0 .0)
+    let test = c .before .before .before .before .before .before .before .before .before .before in
+    let there = test .before in
+    omega (arith, test .loop-test .taken, entry there .good .1 .1 .1 .1 .1 .0 .0)
 
 loop-less : tie.Need-loop-less Inv-loop μ-loop
-loop-less c = omega (arith, c .before .before .before .before .before .before .before .before .before .before .loop-test .taken)
+loop-less c =
+    let test = c .before .before .before .before .before .before .before .before .before .before in
+    omega (arith, test .loop-test .taken)
 
 loop-again : tie.Need-loop-again Inv-loop μ-loop
 loop-again c =

@@ -30,8 +30,9 @@ returns-2 c =
 
 returns-3 : tie.Need-returns-3
 returns-3 c =
-    let s = c .before .before .before .before .before .before .before .before .before .before .before .before in
-    retries-reached (s .args .p) (s .args .retry .0) (s .args .search .0) (list s) (same-length s ∙ c .before .before .before .before .before .before .if1 .left)
+    let at-if1 = c .before .before .before .before .before .before in
+    let s = at-if1 .before .before .before .before .before .before in
+    retries-reached (s .args .p) (s .args .retry .0) (s .args .search .0) (list s) (same-length s ∙ at-if1 .if1 .left)
     (c .before .before .before .if2 .left) (omega (arith, c .if3 .taken))
 
 chain-passes-requires : tie.Need-chain-passes-requires
@@ -40,16 +41,18 @@ chain-passes-requires c κs = search needs
 returns-4 : tie.Need-returns-4
 returns-4 c =
     let t = c .before .before in
-    let s = t .before .before .before .before .before .before .before .before .before .before .before .before in
-    chain-told (s .args .p) (s .args .retry .0) (s .args .search .0) (list s) (same-length s ∙ t .before .before .before .before .before .before .if1 .left)
+    let at-if1 = t .before .before .before .before .before .before in
+    let s = at-if1 .before .before .before .before .before .before in
+    chain-told (s .args .p) (s .args .retry .0) (s .args .search .0) (list s) (same-length s ∙ at-if1 .if1 .left)
     (t .before .before .before .if2 .left) (t .if3 .left) true
     (sym (c .before .chain-passes .ensures) ∙ c .if4 .taken)
 
 returns-5 : tie.Need-returns-5
 returns-5 c =
     let t = c .before .before in
-    let s = t .before .before .before .before .before .before .before .before .before .before .before .before in
-    chain-told (s .args .p) (s .args .retry .0) (s .args .search .0) (list s) (same-length s ∙ t .before .before .before .before .before .before .if1 .left)
+    let at-if1 = t .before .before .before .before .before .before in
+    let s = at-if1 .before .before .before .before .before .before in
+    chain-told (s .args .p) (s .args .retry .0) (s .args .search .0) (list s) (same-length s ∙ at-if1 .if1 .left)
     (t .before .before .before .if2 .left) (t .if3 .left) false
     (sym (c .before .chain-passes .ensures) ∙ c .if4 .left)
 

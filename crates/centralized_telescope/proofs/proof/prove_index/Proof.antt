@@ -68,8 +68,8 @@ same-length c = search needs
 
 returns : tie.Need-returns Inv-loop μ-loop
 returns c =
-    let a = c .before .before .before .before .before .before .before .before .before .before .before .args in
     let v = c .before .before .before .before .loop in
+    let a = c .before .before .before .before .before .before .before .before .before .before .before .args in
     stopped attemptOf _ _ _ _ (v .inv .3 ∙ tried-full (tryOn (a .p) (a .«data» .now) (a .ends .now) (a .marks .now) (a .indexes .now) (a .retry .0)) (a .p .«search_width» - v .s) (v .s) (v .count) (c .if2 .taken)) (v .inv .2)
 
 start-hash-requires : tie.Need-start-hash-requires Inv-loop μ-loop
@@ -83,7 +83,8 @@ enum-known-drawn c = search needs
 
 visit-requires : tie.Need-visit-requires Inv-loop μ-loop
 visit-requires c κs =
-    let o = c .before .before .before .before .before .before .before .before .before .before .before .before .before .before .before .before .before in
+    let at-if2 = c .before .before .before .before .before .before in
+    let o = at-if2 .before .before .before .before .before .before .before .before .before .before .before in
     let a = o .args in
     let v = c .before .before .before .before .before .before .before .before .before .before .loop in (
       subst
@@ -93,7 +94,7 @@ visit-requires c κs =
         id-below (tryOn (a .p) (a .«data» .now) (a .ends .now) (a .marks .now) (a .indexes .now) (a .retry .0)) _ _
             (sym (c .before .before .before .before .round-id .ensures) ∙ ap idOption (c .before .before .drawn .given .1)),
         omega arith,
-        c .before .before .before .before .before .before .if2 .left,
+        at-if2 .if2 .left,
       ),
     )
 
@@ -102,13 +103,16 @@ enum-known-outcome c = search needs
 
 same-length-2 : tie.Need-same-length-2 Inv-loop μ-loop
 same-length-2 c =
+    let turn = c .before .before .before .before .before .before .before .before .before .before .before .before .before .before .before .before in
     c .before .before .before .before .before .visit .kept .1 .1 .1 .1 .1 .1 .1 .1 .1 .1 .1 .1 .1 .1 .0
-    ∙ ap length (c .before .before .before .before .before .before .before .before .before .before .before .before .before .before .before .before .loop .inv .2)
+    ∙ ap length (turn .loop .inv .2)
 
 returns-2 : tie.Need-returns-2 Inv-loop μ-loop
 returns-2 c =
-    try-found (trying (c .before .before .before .before .before .before .before .before .before .before)) _
-    (c .before .before .before .before .before .before .before .before .drawn .given .1) _ _ (c .before .before .before .before .before .visit .ensures) _
+    let at-drawn = c .before .before .before .before .before .before .before .before in
+    let there = at-drawn .before .before in
+    try-found (trying there) _
+    (at-drawn .drawn .given .1) _ _ (c .before .before .before .before .before .visit .ensures) _
     (c .before .outcome .given .1)
 
 enum-known-outcome-2 : tie.Need-enum-known-outcome-2 Inv-loop μ-loop
@@ -125,8 +129,8 @@ loop-less c = search needs
 
 loop-again : tie.Need-loop-again Inv-loop μ-loop
 loop-again c =
-    let a = c .before .before .before .before .before .before .before .before .before .before .before .before .before .before .args in
     let v = c .before .before .before .before .before .before .before .loop in
+    let a = c .before .before .before .before .before .before .before .before .before .before .before .before .before .before .args in
     let hi : v .s + 1 ≤ a .p .«search_width» = omega (arith, c .before .before .before .before .before .if1 .taken) in
     ⊎-elim
     (λ w.
@@ -149,8 +153,8 @@ same-length-3 c = search needs
 
 returns-3 : tie.Need-returns-3 Inv-loop μ-loop
 returns-3 c =
-    let a = c .before .before .before .before .before .before .before .before .before .args in
     let v = c .before .before .loop in
+    let a = c .before .before .before .before .before .before .before .before .before .args in
     let e : a .p .«search_width» - v .s ≡ 0 = omega (arith, c .if1 .left) in
     stopped attemptOf _ _ _ _ (v .inv .3 ∙ tried-end (tryOn (a .p) (a .«data» .now) (a .ends .now) (a .marks .now) (a .indexes .now) (a .retry .0)) (a .p .«search_width» - v .s) (v .s) (v .count) e) (v .inv .2)
 

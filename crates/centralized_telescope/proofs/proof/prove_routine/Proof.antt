@@ -51,9 +51,10 @@ attempted : (s : Made)
     let v = turn s .loop in
     Attempted (a .p) (list s) (a .p .«max_retries» - (v .r + 1)) (v .r) (v .steps) (s .prove-index .result) (s .prove-index .last .1 .1 .1 .1 .1 .1 .1 .1 .0) (v .places) (a .places .now))
 attempted s =
+    let at-if1 = s .before .before .before .before .before .before .before in
     let m = entry s .args .p .«max_retries» in
     let v = turn s .loop in
-    let more : m - v .r ≡ suc (m - (v .r + 1)) = omega (arith, s .before .before .before .before .before .before .before .if1 .taken) in
+    let more : m - v .r ≡ suc (m - (v .r + 1)) = omega (arith, at-if1 .if1 .taken) in
     record {
       still = v .inv .5 ∙ ap (λ (w : ℕ). triesFrom (entry s .args .p) (list s) w (v .r) (v .steps)) more;
       answer-is = s .prove-index .ensures .0;
@@ -73,10 +74,11 @@ table-next s =
 -- a count within the bound can be added
 sum-fits : (s : Made) (t : ℕ) → t ≤ entry s .args .p .«dfs_bound» → turn s .loop .steps + t ≤ 18446744073709551615
 sum-fits s t l =
+    let at-if1 = s .before .before .before .before .before .before .before in
     let o = entry s in
     let v = turn s .loop in
     let law = lawful (o .args .p) (valueOf (o .args .x)) (o .pre .0) in
-    omega (arith, law .limits .max-retries, law .limits .dfs-bound, v .inv .1, s .before .before .before .before .before .before .before .if1 .taken)
+    omega (arith, law .limits .max-retries, law .limits .dfs-bound, v .inv .1, at-if1 .if1 .taken)
 
 add-r : tie.Need-add-r Inv-loop μ-loop
 add-r c = search needs
@@ -107,13 +109,16 @@ add-t25 c =
 
 same-length : tie.Need-same-length Inv-loop μ-loop
 same-length c =
+    let turn = c .before .before .before .before .before .before .before .before .before .before .before .before .before .before in
     c .before .before .before .before .before .prove-index .kept .1 .1 .1 .1 .1 .1 .1 .1 .0
-    ∙ ap length (c .before .before .before .before .before .before .before .before .before .before .before .before .before .before .loop .inv .4)
+    ∙ ap length (turn .loop .inv .4)
 
 same-length-2 : tie.Need-same-length-2 Inv-loop μ-loop
 same-length-2 c =
-    c .before .before .before .before .before .before .before .before .before .before .fill-table .kept .1 .1 .1 .1 .1 .1 .0
-    ∙ c .before .before .before .before .before .before .before .before .before .before .before .before .before .before .loop .inv .2
+    let at-fill-table = c .before .before .before .before .before .before .before .before .before .before in
+    let turn = at-fill-table .before .before .before .before in
+    at-fill-table .fill-table .kept .1 .1 .1 .1 .1 .1 .0
+    ∙ turn .loop .inv .2
 
 returns : tie.Need-returns Inv-loop μ-loop
 returns c = let s = c .before .before .before .before .before in all-found (attempted s) _ _ (c .before .one .given .1) _ _ (table-next s)
@@ -132,11 +137,12 @@ loop-less c = search needs
 loop-again : tie.Need-loop-again Inv-loop μ-loop
 loop-again c =
     let s = c .before .before .before .before .before in
+    let at-if1 = s .before .before .before .before .before .before .before in
     let o = entry s in
     let v = turn s .loop in
     let law = lawful (o .args .p) (valueOf (o .args .x)) (o .pre .0) in
     let q = all-missing (attempted s) _ (c .before .one2 .given .1) in (
-      omega (arith, s .before .before .before .before .before .before .before .if1 .taken),
+      omega (arith, at-if1 .if1 .taken),
       omega (arith, q .2, law .limits .dfs-bound, v .inv .1),
       s .before .before .before .before .before .fill-table .kept .1 .1 .1 .1 .1 .1 .0 ∙ v .inv .2,
       table-next s,

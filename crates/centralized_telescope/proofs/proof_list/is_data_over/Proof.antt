@@ -6,7 +6,7 @@ use borrow.Author.Needs.{needs}
 use borrow.Author.Tests.{lt-ltb, le-ltb}
 use lib.ListN.{length, drop}
 use Rattle.centralized_telescope.specs.inner.ListReading.{dataOf}
-use Rattle.centralized_telescope.specs.laws.WrittenOutLaws.{place-within}
+use Rattle.centralized_telescope.specs.laws.ProofListLaws.{place-within}
 use Rattle.centralized_telescope.proofs.ProofWriting.{data-more, data-end}
 use Rattle.centralized_telescope.proofs.proof_list.is_data_over.Statement.{statement}
 use Rattle.centralized_telescope.proofs.proof_list.is_data_over.Tie as tie
@@ -31,8 +31,9 @@ cast-data-of c = omega (arith, c .shared-slice-known4 .given (c .before .before 
 
 data-of-requires : tie.Need-data-of-requires Inv-loop μ-loop
 data-of-requires c κs =
-    let z = c .before .before .before .before .before .before .args in
-    let p = c .before .before .before .before .before .before .pre in
+    let o = c .before .before .before .before .before .before in
+    let z = o .args in
+    let p = o .pre in
     (p .0, place-within _ (z .places .now) (c .before .before .loop .i) (search needs) (p .1))
 
 sub-if1 : tie.Need-sub-if1 Inv-loop μ-loop
@@ -40,8 +41,8 @@ sub-if1 c = search needs
 
 returns : tie.Need-returns Inv-loop μ-loop
 returns c =
-    let z = c .before .before .before .before .before .before .before .before .args in
     let l = c .before .before .before .before .loop in
+    let z = c .before .before .before .before .before .before .before .before .args in
     sym (lt-ltb (z .room) _ (omega (arith, ap length (c .before .data-of .ensures), l .inv .2, data-more (z .«data» .now) (z .ends .now) (z .places .now) (l .i) (search needs))))
 
 add-used : tie.Need-add-used Inv-loop μ-loop
@@ -55,8 +56,8 @@ loop-less c = search needs
 
 loop-again : tie.Need-loop-again Inv-loop μ-loop
 loop-again c =
-    let z = c .before .before .before .before .before .before .before .before .args in
     let l = c .before .before .before .before .loop in
+    let z = c .before .before .before .before .before .before .before .before .args in
     (search needs, search needs, omega (arith, ap length (c .before .data-of .ensures), l .inv .2, data-more (z .«data» .now) (z .ends .now) (z .places .now) (l .i) (search needs)))
 
 returns-2 : tie.Need-returns-2 Inv-loop μ-loop

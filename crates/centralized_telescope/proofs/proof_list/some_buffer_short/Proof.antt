@@ -2,7 +2,7 @@
 use borrow.Author.Needs.{needs}
 use borrow.Author.Tests.{lt-ltb, le-ltb}
 use lib.ListN.{length}
-use Rattle.centralized_telescope.specs.WrittenOut.{buffersShort}
+use Rattle.centralized_telescope.specs.ProofList.{buffersShort}
 use Rattle.centralized_telescope.proofs.proof_list.some_buffer_short.Statement.{statement}
 use Rattle.centralized_telescope.proofs.proof_list.some_buffer_short.Tie as tie
 

@@ -6,7 +6,7 @@ use borrow.Author.Needs.{needs}
 use borrow.Author.Tests.{le-leb, lt-leb}
 use lib.Dec.{leb}
 use lib.ListN.{length, drop}
-use Rattle.centralized_telescope.specs.WrittenOut.{placeOut}
+use Rattle.centralized_telescope.specs.ProofList.{placeOut}
 use Rattle.centralized_telescope.specs.laws.ListsLaws.{some-here, some-behind, some-done}
 use Rattle.centralized_telescope.proofs.proof_list.some_place_out.Statement.{statement}
 use Rattle.centralized_telescope.proofs.proof_list.some_place_out.Tie as tie

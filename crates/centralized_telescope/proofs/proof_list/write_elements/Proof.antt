@@ -6,7 +6,8 @@ use borrow.Author.Needs.{needs}
 use lib.ListN.{length, take, length-set}
 use lib.Seq.{take-all}
 use Rattle.centralized_telescope.specs.laws.ElementsLaws.{ends-right, same-marks, same-indexes}
-use Rattle.centralized_telescope.specs.WrittenOut.{chosen, wrote, written}
+use Rattle.centralized_telescope.specs.declared.proof_list.Written.the-variants as w
+use Rattle.centralized_telescope.specs.ProofList.{chosen, listOver, proofListOf}
 use Rattle.centralized_telescope.proofs.ProofWriting.{rooms, none-written, one-written, used-is, in-list, own-is, own-short, own-fits, mark-is, number-is}
 use Rattle.centralized_telescope.proofs.proof_list.write_elements.Statement.{statement}
 use Rattle.centralized_telescope.proofs.proof_list.write_elements.Tie as tie
@@ -19,8 +20,8 @@ Inv-loop places «data» ends marks indexes out-data₀ out-ends₀ out-marks₀
     × (length out-ends ≡ length out-ends₀)
     × (length out-marks ≡ length out-marks₀)
     × (length out-indexes ≡ length out-indexes₀)
-    × (wrote used out-data out-ends out-marks out-indexes
-    ≡ written (chosen (take i places) «data» ends marks indexes) out-data₀ out-ends₀ out-marks₀ out-indexes₀)
+    × (proofListOf (w.List used) out-data out-ends out-marks out-indexes
+    ≡ listOver (chosen (take i places) «data» ends marks indexes) out-data₀ out-ends₀ out-marks₀ out-indexes₀)
 
 abbrev μ-loop : tie.MeasureT-loop
 μ-loop places «data» ends marks indexes out-data₀ out-ends₀ out-marks₀ out-indexes₀ used₀ i₀ out-data out-ends out-marks out-indexes used i =
@@ -106,15 +107,15 @@ mul-out-ends c = search needs
 
 slice-write-out-ends : tie.Need-slice-write-out-ends Inv-loop μ-loop
 slice-write-out-ends c =
-    let o = c .before .before .before .before .before .before .before .before .before .before .before .before .before .before .before .before .before .before in
     let l = c .before .before .before .before .before .before .before .before .loop in
+    let o = c .before .before .before .before .before .before .before .before .before .before .before .before .before .before .before .before .before .before in
     let r = rooms _ _ _ _ _ _ (o .pre .3) in
     omega (arith, r .ends-room, l .inv .3)
 
 slice-write-out-marks : tie.Need-slice-write-out-marks Inv-loop μ-loop
 slice-write-out-marks c =
-    let o = c .before .before .before .before .before .before .before .before .before .before .before .before .before .before .before .before .before .before in
     let l = c .before .before .before .before .before .before .before .before .loop in
+    let o = c .before .before .before .before .before .before .before .before .before .before .before .before .before .before .before .before .before .before in
     let r = rooms _ _ _ _ _ _ (o .pre .3) in
     omega (arith, r .marks-room, l .inv .4)
 
@@ -123,8 +124,8 @@ mul-out-indexes c = search needs
 
 slice-write-out-indexes : tie.Need-slice-write-out-indexes Inv-loop μ-loop
 slice-write-out-indexes c =
-    let o = c .before .before .before .before .before .before .before .before .before .before .before .before .before .before .before .before .before .before in
     let l = c .before .before .before .before .before .before .before .before .loop in
+    let o = c .before .before .before .before .before .before .before .before .before .before .before .before .before .before .before .before .before .before in
     let r = rooms _ _ _ _ _ _ (o .pre .3) in
     omega (arith, r .indexes-room, l .inv .5)
 
@@ -169,7 +170,8 @@ same-length-4 c = c .before .loop .inv .5
 returns : tie.Need-returns Inv-loop μ-loop
 returns c =
     let l = c .before .loop in
-    let e = take-all (l .i) (c .before .before .before .before .before .before .before .before .before .before .before .args .places .now) (search needs) in
+    let o = c .before .before .before .before .before .before .before .before .before .before .before in
+    let e = take-all (l .i) (o .args .places .now) (search needs) in
     rw e at (l .inv .6)
 
 pub write-elements-spec : {M : Type 1} → statement M

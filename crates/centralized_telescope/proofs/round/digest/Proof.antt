@@ -9,8 +9,9 @@ sha256-requires c κs = search needs
 
 returns : tie.Need-returns
 returns c =
-    let z = c .before .before .before .before .before .before .args in
-    digest-is (z .label .now) (z .a .now) (z .b .now) (z .c .now) _ _ (c .before .before .before .before .before .before .pre) (c .before .sha256 .ensures)
+    let o = c .before .before .before .before .before .before in
+    let z = o .args in
+    digest-is (z .label .now) (z .a .now) (z .b .now) (z .c .now) _ _ (o .pre) (c .before .sha256 .ensures)
 
 pub digest-spec : {M : Type 1} → statement M
 digest-spec = tie.close (tie.spec sha256-requires returns)

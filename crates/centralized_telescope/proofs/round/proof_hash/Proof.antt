@@ -28,7 +28,9 @@ below-threshold-requires c κs = search needs
 
 returns : tie.Need-returns
 unfolding proofLabel
-returns c = yes-is (c .before .before .before .before .before .before .before .args .t1) _ _ _ _ (c .before .before .digest .ensures) (c .before .first-half .ensures) (c .below-threshold .ensures)
+returns c =
+    let o = c .before .before .before .before .before .before .before in
+    yes-is (o .args .t1) _ _ _ _ (c .before .before .digest .ensures) (c .before .first-half .ensures) (c .below-threshold .ensures)
 
 pub proof-hash-spec : {M : Type 1} → statement M
 proof-hash-spec =

@@ -28,7 +28,9 @@ digest-requires c κs = search needs
 
 returns : tie.Need-returns
 unfolding roundLabel
-returns c = start-is _ _ _ _ _ (c .before .before .before .before .before .before .eight-bytes .ensures) (c .before .before .before .before .before .eight-bytes2 .ensures) (c .digest .ensures)
+returns c =
+    let at-eight-bytes = c .before .before .before .before .before .before in
+    start-is _ _ _ _ _ (at-eight-bytes .eight-bytes .ensures) (c .before .before .before .before .before .eight-bytes2 .ensures) (c .digest .ensures)
 
 pub start-hash-spec : {M : Type 1} → statement M
 start-hash-spec =

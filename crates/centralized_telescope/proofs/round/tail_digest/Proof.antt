@@ -11,14 +11,16 @@ use Rattle.centralized_telescope.proofs.round.tail_digest.Tie as tie
 
 data-of-requires : tie.Need-data-of-requires
 data-of-requires c κs =
-    let z = c .before .before .before .before .before .before .args in
-    let p = c .before .before .before .before .before .before .pre in
+    let o = c .before .before .before .before .before .before in
+    let z = o .args in
+    let p = o .pre in
     (ends-right (z .«data» .now) (z .ends .now) (z .marks .now) (z .indexes .now) (p .0), p .1)
 
 index-bytes-requires : tie.Need-index-bytes-requires
 index-bytes-requires c κs =
-    let z = c .before .before .before .before .before .before .before .args in
-    let p = c .before .before .before .before .before .before .before .pre in
+    let o = c .before .before .before .before .before .before .before in
+    let z = o .args in
+    let p = o .pre in
     let m = same-marks (z .«data» .now) (z .ends .now) (z .marks .now) (z .indexes .now) (p .0) in
     let x = same-indexes (z .«data» .now) (z .ends .now) (z .marks .now) (z .indexes .now) (p .0) in
     (omega (arith, p .1, m), omega (arith, p .1, x))
@@ -31,8 +33,9 @@ slice-aggregate-digest c = sym (length-take-le _ _ (c .before .before .index-byt
 
 digest-requires : tie.Need-digest-requires
 digest-requires c κs =
-    let z = c .before .before .before .before .before .before .before .before .before .before .args in
-    let p = c .before .before .before .before .before .before .before .before .before .before .pre in
+    let o = c .before .before .before .before .before .before .before .before .before .before in
+    let z = o .args in
+    let p = o .pre in
     omega (
       arith,
       p .2,
@@ -44,8 +47,9 @@ digest-requires c κs =
 
 returns : tie.Need-returns
 returns c =
-    let z = c .before .before .before .before .before .before .before .before .before .before .before .args in
-    let p = c .before .before .before .before .before .before .before .before .before .before .before .pre in
+    let o = c .before .before .before .before .before .before .before .before .before .before .before in
+    let z = o .args in
+    let p = o .pre in
     let t = tail-there (z .«data» .now) (z .ends .now) (z .marks .now) (z .indexes .now) (p .0) (z .place) (p .1) in
     let own = c .before .before .before .before .data-of .ensures in
     let index = c .before .before .before .index-bytes .ensures .1 in

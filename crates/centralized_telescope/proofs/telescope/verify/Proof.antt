@@ -9,12 +9,16 @@ use borrow.Author.Needs.{needs}
 use Rattle.centralized_telescope.proofs.telescope.verify.Statement.{statement}
 use Rattle.centralized_telescope.proofs.telescope.verify.Tie as tie
 
+-- the function's entry, from its first call
+abbrev entry : tie.After-check-params → tie.Start
+entry s = s .before .before .before .before .before
+
 -- the settings pass, with X
-lawful-settings : (s : tie.After-x) → checked (s .before .before .before .before .before .before .before .args .p) ≡ (0, valueOf (s .x .given .0 .0))
+lawful-settings : (s : tie.After-x) → checked (entry (s .before .before) .args .p) ≡ (0, valueOf (s .x .given .0 .0))
 lawful-settings s = sym (s .before .before .check-params .ensures) ∙ ap checkedNumber (s .x .given .1)
 
 -- the list is accepted
-accepted : (s : tie.After-enum-told) → (let a = s .before .before .before .before .before .before .before .before .before .before .before .args in listCheck (a .«data» .now) (a .ends .now) (a .marks .now) (a .indexes .now) ≡ 0)
+accepted : (s : tie.After-enum-told) → (let a = entry (s .before .before .before .before .before .before) .args in listCheck (a .«data» .now) (a .ends .now) (a .marks .now) (a .indexes .now) ≡ 0)
 accepted s = sym (s .before .before .check-list .ensures) ∙ ap listNumber (s .enum-told .given .1)
 
 check-params-requires : tie.Need-check-params-requires
@@ -29,7 +33,7 @@ enum-known-k c = search needs
 returns : tie.Need-returns
 returns c =
     let s = c .before in
-    let a = s .before .before .before .before .before .before .before .args in
+    let a = entry (s .before .before) .args in
     settings-refused (a .p) (a .retry-counter .0) (a .search-counter .0) (a .«data» .now) (a .ends .now) (a .marks .now) (a .indexes .now) (s .k .given .0 .0) (sym (s .before .before .check-params .ensures) ∙ ap checkedNumber (s .k .given .1))
 
 check-list-requires : tie.Need-check-list-requires
@@ -44,17 +48,18 @@ enum-known-k-2 c = search needs
 returns-2 : tie.Need-returns-2
 returns-2 c =
     let s = c .before in
-    let a = s .before .before .before .before .before .before .before .before .before .before .before .args in
+    let a = entry (s .before .before .before .before .before .before) .args in
     list-refused (a .p) (a .retry-counter .0) (a .search-counter .0) (a .«data» .now) (a .ends .now) (a .marks .now) (a .indexes .now) (number-alone (lawful-settings (s .before .before .before .before)))
     (s .k2 .given .0 .0) (sym (s .before .before .check-list .ensures) ∙ ap listNumber (s .k2 .given .1))
 
 judge-requires : tie.Need-judge-requires
-judge-requires c κs = let s = c .before .before .before .before in (threshold-passed (s .before .before .before .before .before .before .before .args .p) (valueOf (s .x .given .0 .0)) (lawful-settings s), accepted c)
+judge-requires c κs =
+    let s = c .before .before .before .before in (threshold-passed (entry (s .before .before) .args .p) (valueOf (s .x .given .0 .0)) (lawful-settings s), accepted c)
 
 returns-3 : tie.Need-returns-3
 returns-3 c =
     let s = c .before in
-    let a = s .before .before .before .before .before .before .before .before .before .before .before .args in
+    let a = entry (s .before .before .before .before .before .before) .args in
     c .judge .ensures ∙ left-to-judge (a .p) (a .retry-counter .0) (a .search-counter .0) (a .«data» .now) (a .ends .now) (a .marks .now) (a .indexes .now) (number-alone (lawful-settings (s .before .before .before .before))) (accepted s)
 
 pub verify-spec : {M : Type 1} → statement M

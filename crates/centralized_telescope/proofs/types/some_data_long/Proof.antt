@@ -1,24 +1,22 @@
 -- `some_data_long`: no element before i is too long, and `from` is where the last of them ends.
-use mathlib.Core.Path.{_≡_, sym, _∙_}
-use Prim.Native.Nat.{_-_, _≤_, _<_}
+use mathlib.Core.Path.{_≡_, refl, sym, _∙_}
+use mathlib.Core.Bool.{true, false}
+use Prim.Native.Nat.{_-_, _≤_}
 use borrow.Author.Needs.{needs}
 use lib.ListN.{length, drop}
 use Rattle.centralized_telescope.specs.Elements.{dataLong}
-use Rattle.centralized_telescope.proofs.ListFaults.{data-here, data-behind, data-done}
+use Rattle.centralized_telescope.proofs.ListFaults.{data-next, data-done}
 use Rattle.centralized_telescope.proofs.types.some_data_long.Statement.{statement}
 use Rattle.centralized_telescope.proofs.types.some_data_long.Tie as tie
 
 abbrev Inv-loop : tie.InvT-loop
-Inv-loop ends first from₀ i₀ from i = (i ≤ length ends) × (from < 4294967296) × (dataLong from (drop i ends) ≡ dataLong first ends)
+Inv-loop ends from₀ i₀ from i = (i ≤ length ends) × (dataLong from (drop i ends) ≡ dataLong 0 ends)
 
 abbrev μ-loop : tie.MeasureT-loop
-μ-loop ends first from₀ i₀ from i = length ends - i
-
-wide-requires : tie.Need-wide-requires Inv-loop μ-loop
-wide-requires c κs = search needs
+μ-loop ends from₀ i₀ from i = length ends - i
 
 loop-holds : tie.Need-loop-holds Inv-loop μ-loop
-loop-holds c = (search needs, c .wide .ensures .1, rw (c .wide .ensures .0))
+loop-holds c = (search needs, refl)
 
 mul-wide : tie.Need-mul-wide Inv-loop μ-loop
 mul-wide c = search needs
@@ -26,16 +24,18 @@ mul-wide c = search needs
 shared-slice-read-wide : tie.Need-shared-slice-read-wide Inv-loop μ-loop
 shared-slice-read-wide c = search needs
 
-wide-requires-2 : tie.Need-wide-requires-2 Inv-loop μ-loop
-wide-requires-2 c κs = search needs
+wide-requires : tie.Need-wide-requires Inv-loop μ-loop
+wide-requires c κs = search needs
 
-add-if1 : tie.Need-add-if1 Inv-loop μ-loop
-add-if1 c = search needs
+is-data-long-requires : tie.Need-is-data-long-requires Inv-loop μ-loop
+is-data-long-requires c κs = search needs
 
 returns : tie.Need-returns Inv-loop μ-loop
 returns c =
-    let l = c .before .before .before .before .loop in
-    sym (data-here _ (l .i) (l .from) _ (search needs) (c .before .wide2 .ensures .0) (c .if1 .taken)) ∙ l .inv .2
+    let o = c .before .before .before .before .before in
+    let l = o .loop in
+    let z = o .before .before .args in
+    sym (data-next (z .ends .now) (l .i) (l .from) _ (search needs) (c .before .before .wide .ensures .0) _ true (c .before .is-data-long .ensures) (c .if1 .taken)) ∙ l .inv .1
 
 add-i : tie.Need-add-i Inv-loop μ-loop
 add-i c = search needs
@@ -45,11 +45,16 @@ loop-less c = search needs
 
 loop-again : tie.Need-loop-again Inv-loop μ-loop
 loop-again c =
-    let l = c .before .before .before .before .loop in
-    (search needs, c .before .wide2 .ensures .1, sym (data-behind _ (l .i) (l .from) _ (search needs) (c .before .wide2 .ensures .0) (c .if1 .left)) ∙ l .inv .2)
+    let o = c .before .before .before .before .before in
+    let l = o .loop in
+    let z = o .before .before .args in
+    (search needs, sym (data-next (z .ends .now) (l .i) (l .from) _ (search needs) (c .before .before .wide .ensures .0) _ false (c .before .is-data-long .ensures) (c .if1 .left)) ∙ l .inv .1)
 
 returns-2 : tie.Need-returns-2 Inv-loop μ-loop
-returns-2 c = let l = c .before .loop in sym (data-done _ (l .i) (l .from) 0 (search needs)) ∙ l .inv .2
+returns-2 c =
+    let l = c .before .loop in
+    let z = c .before .before .before .args in
+    sym (data-done (z .ends .now) (l .i) (l .from) (search needs)) ∙ l .inv .1
 
 pub some-data-long-spec : {M : Type 1} → statement M
 some-data-long-spec =
@@ -57,12 +62,11 @@ some-data-long-spec =
     (tie.spec
     Inv-loop
     μ-loop
-    wide-requires
     loop-holds
     mul-wide
     shared-slice-read-wide
-    wide-requires-2
-    add-if1
+    wide-requires
+    is-data-long-requires
     returns
     add-i
     loop-less

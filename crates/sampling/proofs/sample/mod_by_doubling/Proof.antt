@@ -1,4 +1,4 @@
--- `mod_by_doubling`: after k doublings the high word's remainder is that of hi * 2 ^ k.
+-- `mod_by_doubling`: after k doublings the high half's remainder is that of hi * 2 ^ k.
 use mathlib.Core.Path.{_≡_, sym, ap, _∙_, subst}
 use Prim.Native.Nat.{ℕ, _+_, _-_, _*_, _%_, _^_, _≤_, _<_}
 use native.Mathlib.Nat.{mod-lt, mul-one, add-mod}

@@ -4,12 +4,12 @@ use mathlib.Core.Logic.{⊎-elim}
 use Prim.Native.Nat.{ℕ, _-_, _^_, _≤_, _<_}
 use native.Mathlib.Omega.{arith}
 use borrow.Author.Needs.{needs}
-use Rattle.sampling.proofs.FullWords.{none-near-the-top, value-below-it, value-at-a-lower-word}
+use Rattle.sampling.proofs.FullHalves.{none-near-the-top, value-below-it, value-at-a-lower-half}
 use Rattle.sampling.proofs.sample.mod_not_power_of_2.Statement.{statement}
 use Rattle.sampling.proofs.sample.mod_not_power_of_2.Tie as tie
 
-mod-words-requires : tie.Need-mod-words-requires
-mod-words-requires c κs = search needs
+mod-u128-requires : tie.Need-mod-u128-requires
+mod-u128-requires c κs = search needs
 
 sub-if2 : tie.Need-sub-if2
 sub-if2 c = search needs
@@ -18,13 +18,13 @@ returns : tie.Need-returns
 returns c =
     let m = c .before .before in
     let a = m .before .before .before .args in
-    let near : 2 ^ 64 - 1 - a .i .lo ≤ m .mod-words .result = omega arith in
-    none-near-the-top (a .n) (a .i .hi) (a .i .lo) (m .before .if1 .taken) (subst (λ (k : ℕ). 2 ^ 64 - 1 - a .i .lo ≤ k) (m .mod-words .ensures) near)
+    let near : 2 ^ 64 - 1 - a .i .lo ≤ m .mod-u128 .result = omega arith in
+    none-near-the-top (a .n) (a .i .hi) (a .i .lo) (m .before .if1 .taken) (subst (λ (k : ℕ). 2 ^ 64 - 1 - a .i .lo ≤ k) (m .mod-u128 .ensures) near)
 
-mod-words-requires-2 : tie.Need-mod-words-requires-2
-mod-words-requires-2 c κs = search needs
+mod-u128-requires-2 : tie.Need-mod-u128-requires-2
+mod-u128-requires-2 c κs = search needs
 
--- n and both words are `u64`
+-- n and both halves are `u64`
 fit : (c : tie.Start) → (c .args .n < 2 ^ 64) × (c .args .i .hi < 2 ^ 64) × (c .args .i .lo < 2 ^ 64)
 fit c = (omega arith, omega arith, omega arith)
 
@@ -35,12 +35,12 @@ returns-2 : tie.Need-returns-2
 returns-2 c =
     let s = c .before .before .before in
     let a = s .args in
-    ap (λ (k : ℕ). (0, k)) (c .mod-words2 .ensures)
+    ap (λ (k : ℕ). (0, k)) (c .mod-u1282 .ensures)
     ∙ ⊎-elim
     (λ w. value-below-it (a .n) (a .i .hi) (a .i .lo) (w .0 .taken) (subst (λ (k : ℕ). k < 2 ^ 64 - 1 - a .i .lo) (w .1 .ensures) (w .3 .left)))
-    (λ w. let f = fit s in value-at-a-lower-word (a .n) (a .i .hi) (a .i .lo) (s .pre) (f .0) (not-full (a .i .hi) (f .1) (w .left)) (f .2))
+    (λ w. let f = fit s in value-at-a-lower-half (a .n) (a .i .hi) (a .i .lo) (s .pre) (f .0) (not-full (a .i .hi) (f .1) (w .left)) (f .2))
     (c .before .if1 .came)
 
 pub mod-not-power-of-2-spec : {M : Type 1} → statement M
 mod-not-power-of-2-spec =
-    tie.close (tie.spec mod-words-requires sub-if2 returns mod-words-requires-2 returns-2)
+    tie.close (tie.spec mod-u128-requires sub-if2 returns mod-u128-requires-2 returns-2)

@@ -11,8 +11,8 @@ use Rattle.sampling.proofs.sample.sample_uniform.Tie as tie
 returns : tie.Need-returns
 returns c = let a = c .before .args in sym (refused-at-zero (a .h) (a .n) (c .if1 .taken))
 
-words-of-requires : tie.Need-words-of-requires
-words-of-requires c κs = search needs
+u128-of-requires : tie.Need-u128-of-requires
+u128-of-requires c κs = search needs
 
 is-power-of-two-requires : tie.Need-is-power-of-two-requires
 is-power-of-two-requires c κs = search needs
@@ -28,7 +28,7 @@ returns-2 c =
     let t = c .before in
     let w = t .before .before in
     let a = w .before .before .args in
-    ap (λ (k : ℕ). (0, k)) (c .mod-power-of-2 .ensures ∙ ap (λ (k : ℕ). k % a .n) (w .words-of .ensures .0))
+    ap (λ (k : ℕ). (0, k)) (c .mod-power-of-2 .ensures ∙ ap (λ (k : ℕ). k % a .n) (w .u128-of .ensures .0))
     ∙ sym (at-a-power (a .h) (a .n) (positive (w .before)) (sym (t .before .is-power-of-two .ensures) ∙ t .if2 .taken))
 
 mod-not-power-of-2-requires : tie.Need-mod-not-power-of-2-requires
@@ -40,7 +40,7 @@ returns-3 c =
     let w = t .before .before in
     let a = w .before .before .args in
     c .mod-not-power-of-2 .ensures
-    ∙ ap (λ (k : ℕ). modNotPower k (a .n)) (w .words-of .ensures .1)
+    ∙ ap (λ (k : ℕ). modNotPower k (a .n)) (w .u128-of .ensures .1)
     ∙ sym (not-at-a-power (a .h) (a .n) (positive (w .before)) (sym (t .before .is-power-of-two .ensures) ∙ t .if2 .left))
 
 pub sample-uniform-spec : {M : Type 1} → statement M
@@ -48,7 +48,7 @@ sample-uniform-spec =
     tie.close
     (tie.spec
     returns
-    words-of-requires
+    u128-of-requires
     is-power-of-two-requires
     mod-power-of-2-requires
     returns-2

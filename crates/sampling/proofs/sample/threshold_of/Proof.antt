@@ -12,15 +12,15 @@ is-outside-unit-requires c κs = search needs
 returns : tie.Need-returns
 returns c = let q = c .before .before .args .q in sym (threshold-refused q (sym (c .before .is-outside-unit .ensures) ∙ c .if1 .taken))
 
-threshold-words-requires : tie.Need-threshold-words-requires
-threshold-words-requires c κs = sym (c .before .is-outside-unit .ensures) ∙ c .if1 .left
+unit-threshold-requires : tie.Need-unit-threshold-requires
+unit-threshold-requires c κs = sym (c .before .is-outside-unit .ensures) ∙ c .if1 .left
 
 returns-2 : tie.Need-returns-2
 returns-2 c =
     let t = c .before in
     let q = t .before .before .args .q in
-    ap (λ (x : ℕ). (0, x)) (c .threshold-words .ensures) ∙ sym (threshold-at q (sym (t .before .is-outside-unit .ensures) ∙ t .if1 .left))
+    ap (λ (x : ℕ). (0, x)) (c .unit-threshold .ensures) ∙ sym (threshold-at q (sym (t .before .is-outside-unit .ensures) ∙ t .if1 .left))
 
 pub threshold-of-spec : {M : Type 1} → statement M
 threshold-of-spec =
-    tie.close (tie.spec is-outside-unit-requires returns threshold-words-requires returns-2)
+    tie.close (tie.spec is-outside-unit-requires returns unit-threshold-requires returns-2)

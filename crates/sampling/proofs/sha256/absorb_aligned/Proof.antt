@@ -39,8 +39,8 @@ absorb-part-requires-2 c κs =
 
 returns-2 : tie.Need-returns-2
 returns-2 c =
-    let z = c .before .before .before .before .before .before .args in
     let h = c .before .before .absorb-blocks in
+    let z = c .before .before .before .before .before .before .args in
     in-two (z .h) (h .result) (c .absorb-part2 .result) (z .s .now) (length (z .s .now) / 64 * 64) (h .ensures) (c .absorb-part2 .ensures)
 
 pub absorb-aligned-spec : {M : Type 1} → statement M

@@ -48,8 +48,8 @@ absorb-aligned-requires-2 c κs =
 
 returns-3 : tie.Need-returns-3
 returns-3 c =
-    let z = c .before .before .before .before .before .before .before .before .args in
     let h = c .before .before .absorb-end in
+    let z = c .before .before .before .before .before .before .before .before .args in
     in-two (z .h) (h .result) (c .absorb-aligned2 .result) (z .s .now) (64 - z .h .len % 64) (h .ensures) (c .absorb-aligned2 .ensures)
 
 pub absorb-all-spec : {M : Type 1} → statement M

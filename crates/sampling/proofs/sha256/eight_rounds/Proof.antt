@@ -35,8 +35,10 @@ round-at-requires-8 c κs =
 
 returns : tie.Need-returns
 returns c =
-    let z = c .before .before .before .before .before .before .before .before .before .before .args in
-    eight (z .k .now) (z .w .now) (z .v) (c .before .before .before .before .before .before .before .round-at .ensures) (c .before .before .before .before .before .before .round-at2 .ensures) (c .before .before .before .before .before .round-at3 .ensures) (c .before .before .before .before .round-at4 .ensures) (c .before .before .before .round-at5 .ensures) (c .before .before .round-at6 .ensures) (c .before .round-at7 .ensures) (c .round-at8 .ensures)
+    let at-round-at2 = c .before .before .before .before .before .before in
+    let at-round-at = at-round-at2 .before in
+    let z = at-round-at .before .before .before .args in
+    eight (z .k .now) (z .w .now) (z .v) (at-round-at .round-at .ensures) (at-round-at2 .round-at2 .ensures) (c .before .before .before .before .before .round-at3 .ensures) (c .before .before .before .before .round-at4 .ensures) (c .before .before .before .round-at5 .ensures) (c .before .before .round-at6 .ensures) (c .before .round-at7 .ensures) (c .round-at8 .ensures)
 
 pub eight-rounds-spec : {M : Type 1} → statement M
 eight-rounds-spec =

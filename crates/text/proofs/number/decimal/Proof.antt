@@ -38,8 +38,8 @@ unknown-requires-2 c κs = search needs
 
 returns-2 : tie.Need-returns-2 Inv-loop μ-loop
 returns-2 c =
-    let l = c .before .before .before .before .before .before .loop in
     let w = c .before .before .before .with-digit in
+    let l = c .before .before .before .before .before .before .loop in
     let t = c .before .before .before .before .before .before .before .before .before .args .text .now in
     let n = sym (w .ensures .0) ∙ is-unknown (w .result .known) (c .before .if2 .taken) in
     let e = refused t (l .value) (l .i) (l .inv .2) (omega arith) n in
@@ -53,9 +53,9 @@ loop-less c = omega arith
 
 loop-again : tie.Need-loop-again Inv-loop μ-loop
 loop-again c =
-    let t = c .before .before .before .before .before .before .before .before .args .text .now in
-    let l = c .before .before .before .before .before .loop in
     let w = c .before .before .with-digit in
+    let l = c .before .before .before .before .before .loop in
+    let t = c .before .before .before .before .before .before .before .before .args .text .now in
     let k : w .result .known ≡ true = is-known (w .result .known) (c .if2 .left) in
     let r : w .result .value ≡ 10 * l .value + (getD t (l .i) 0 - 48) = w .ensures .1 ∙ rw k in
     (omega arith, omega arith, rw r (goes-on t (l .value) (l .i) (l .inv .2) (omega arith) (sym (w .ensures .0) ∙ k)))

@@ -50,9 +50,10 @@ digest-of-requires c κs = search needs
 
 returns-2 : tie.Need-returns-2
 returns-2 c =
-    let k = c .before .before .before .before .before .before .zeros-of in
     let b = c .before .before .before .before .before .eight-bytes in
-    digested (b .result) (k .result) (c .before .before .before .before .before .before .before .before .args .self) (c .before .before .before .absorb-all .result)
+    let k = c .before .before .before .before .before .before .zeros-of in
+    let o = c .before .before .before .before .before .before .before .before in
+    digested (b .result) (k .result) (o .args .self) (c .before .before .before .absorb-all .result)
     (c .before .absorb-all2 .result) (omega arith) (k .ensures .0) (k .ensures .1) (b .ensures) (c .before .before .before .absorb-all .ensures)
     (c .before .absorb-all2 .ensures) (c .digest-of .ensures)
 

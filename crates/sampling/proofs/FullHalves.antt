@@ -1,5 +1,5 @@
--- Where no draw is made: with M = 2 ^ 128 - 1 and m = M % n, D * n is M - m. A number of two words comes to it only where its high
--- word is full and its low word is within m of full.
+-- Where no draw is made: with M = 2 ^ 128 - 1 and m = M % n, D * n is M - m. A number of two halves comes to it only where its high
+-- half is full and its low half is within m of full.
 use mathlib.Core.Path.{_≡_, sym, ap, _∙_}
 use mathlib.Core.Bool.{Bool, true, false, cond}
 use Prim.Native.Nat.{ℕ, _+_, _-_, _*_, _%_, _^_, _≤_, _<_}
@@ -14,7 +14,7 @@ module _ (n hi lo : ℕ) where
   abbrev m : ℕ
   m = (2 ^ 128 - 1) % n
 
-  -- D * n + m is M: a full high word and a full low one
+  -- D * n + m is M: a full high half and a full low one
   whole : D n * n + m ≡ (2 ^ 64 - 1) * 2 ^ 64 + (2 ^ 64 - 1)
   whole = div-add-mod' (2 ^ 128 - 1) n
 
@@ -22,7 +22,7 @@ module _ (n hi lo : ℕ) where
   unfolding modNotPower
   decided t e = rw e
 
-  -- what the high words amount to is a variable below: 2 ^ 128 has more digits than `omega` takes
+  -- what the high halves amount to is a variable below: 2 ^ 128 has more digits than `omega` takes
   module _ (full : hi ≡ 2 ^ 64 - 1) where
     whole-full : D n * n + m ≡ hi * 2 ^ 64 + (2 ^ 64 - 1)
     whole-full = whole ∙ ap (λ (k : ℕ). k * 2 ^ 64 + (2 ^ 64 - 1)) (sym full)
@@ -39,8 +39,8 @@ module _ (n hi lo : ℕ) where
         go : (p d m : ℕ) → d + m ≡ p + (2 ^ 64 - 1) → m < 2 ^ 64 - 1 - lo → p + lo < d
         go p d m w h = omega arith
 
-  pub value-at-a-lower-word : 0 < n → n < 2 ^ 64 → hi < 2 ^ 64 - 1 → lo < 2 ^ 64 → (0, (hi * 2 ^ 64 + lo) % n) ≡ modNotPower (hi * 2 ^ 64 + lo) n
-  value-at-a-lower-word N F H L =
+  pub value-at-a-lower-half : 0 < n → n < 2 ^ 64 → hi < 2 ^ 64 - 1 → lo < 2 ^ 64 → (0, (hi * 2 ^ 64 + lo) % n) ≡ modNotPower (hi * 2 ^ 64 + lo) n
+  value-at-a-lower-half N F H L =
       decided false
       (lt-leb (D n * n) (hi * 2 ^ 64 + lo)
       (go ((2 ^ 64 - 1) * 2 ^ 64) (D n * n) m (hi * 2 ^ 64 + lo) whole (mod-lt (2 ^ 128 - 1) N) (digits-lt H L)))

@@ -39,7 +39,7 @@ placeOut len places = someOf (leb len) places
 
 -- ---- the answer: its number and how many data bytes were written; and each lent buffer afterwards
 
-pub record WrittenOut : Type 0 where
+pub record ProofList : Type 0 where
   pub number : ℕ
   pub len : ℕ
   pub bytes : List ℕ
@@ -47,19 +47,16 @@ pub record WrittenOut : Type 0 where
   pub marks : List ℕ
   pub indexes : List ℕ
 
-abbrev pub wrote : ℕ → List ℕ → List ℕ → List ℕ → List ℕ → WrittenOut
-wrote len bytes ends marks indexes =
-    record { number = 0; len = len; bytes = bytes; ends = ends; marks = marks; indexes = indexes }
-
--- 01, Lent and given back, refusals: the number, a 0, and the buffers as lent
-abbrev pub unwritten : ℕ → List ℕ → List ℕ → List ℕ → List ℕ → WrittenOut
-unwritten k bytes ends marks indexes =
-    record { number = k; len = 0; bytes = bytes; ends = ends; marks = marks; indexes = indexes }
-
--- elements written into lent buffers
-unfoldable pub written : List Element → List ℕ → List ℕ → List ℕ → List ℕ → WrittenOut
-written es bytes ends marks indexes =
-    wrote (length (joined es)) (over (joined es) bytes) (over (endsFrom 0 es) ends) (over (marksOf es) marks) (over (indexesOf es) indexes)
+-- elements over the first numbers of lent buffers
+unfoldable pub listOver : List Element → List ℕ → List ℕ → List ℕ → List ℕ → ProofList
+listOver es bytes ends marks indexes = record {
+  number = 0;
+  len = length (joined es);
+  bytes = over (joined es) bytes;
+  ends = over (endsFrom 0 es) ends;
+  marks = over (marksOf es) marks;
+  indexes = over (indexesOf es) indexes;
+}
 
 -- buffers of so many numbers are too short: three of them for `count` numbers each, the data's for `size` bytes
 unfoldable pub buffersShort : ℕ → ℕ → ℕ → ℕ → ℕ → ℕ → Bool
@@ -80,12 +77,13 @@ module _ (places bytes ends marks indexes : List ℕ) (outBytes outEnds outMarks
       0
       ∷ [])
 
-  unfoldable pub proofWritten : WrittenOut
-  proofWritten =
-      cond (eqb writeRefusal 0) (written (chosen places bytes ends marks indexes) outBytes outEnds outMarks outIndexes)
-      (unwritten writeRefusal outBytes outEnds outMarks outIndexes)
+  -- the elements at the places over the buffers; 01, Lent and given back, refusals: the number, a 0, and the buffers as lent
+  unfoldable pub proofList : ProofList
+  proofList =
+      cond (eqb writeRefusal 0) (listOver (chosen places bytes ends marks indexes) outBytes outEnds outMarks outIndexes)
+      (record { number = writeRefusal; len = 0; bytes = outBytes; ends = outEnds; marks = outMarks; indexes = outIndexes })
 
 -- the number for each answer, and the buffers with it
-abbrev pub outcome : Written → List ℕ → List ℕ → List ℕ → List ℕ → WrittenOut
-outcome (w.List len) bytes ends marks indexes = wrote len bytes ends marks indexes
-outcome (w.Refused k) bytes ends marks indexes = unwritten (refusalNumber k) bytes ends marks indexes
+abbrev pub proofListOf : Written → List ℕ → List ℕ → List ℕ → List ℕ → ProofList
+proofListOf (w.List len) bytes ends marks indexes = record { number = 0; len = len; bytes = bytes; ends = ends; marks = marks; indexes = indexes }
+proofListOf (w.Refused k) bytes ends marks indexes = record { number = refusalNumber k; len = 0; bytes = bytes; ends = ends; marks = marks; indexes = indexes }

@@ -14,7 +14,7 @@ use Rattle.centralized_telescope.specs.Elements.{Element, elementsFrom, 
 use Rattle.centralized_telescope.specs.laws.ElementsLaws.{data-there, bytes-short}
 use Rattle.centralized_telescope.specs.Lists.{Each, someOf}
 use Rattle.centralized_telescope.specs.laws.ListsLaws.{take-over, none-at, each-nil, each-cons, number-none}
-use Rattle.centralized_telescope.specs.WrittenOut.{joined, endsFrom, marksOf, indexesOf, chosen, placeOut, written, unwritten, WrittenOut, writeRefusal, proofWritten}
+use Rattle.centralized_telescope.specs.ProofList.{joined, endsFrom, marksOf, indexesOf, chosen, placeOut, ProofList, listOver, writeRefusal, proofList}
 use Rattle.centralized_telescope.specs.inner.ListReading.{dataOf}
 
 -- ---- a list written out is accepted
@@ -121,26 +121,26 @@ unsaid true k e = absurd (omega arith)
 unsaid false k e = refl
 
 module _ (places d n m x b′ n′ m′ x′ : List ℕ) where
-  abbrev r : WrittenOut
-  r = proofWritten places d n m x b′ n′ m′ x′
+  abbrev r : ProofList
+  r = proofList places d n m x b′ n′ m′ x′
 
   abbrev es : List Element
   es = chosen places d n m x
 
   number-refusal : r .number ≡ 0 → writeRefusal places d n m x b′ n′ m′ x′ ≡ 0
-  unfolding proofWritten written
+  unfolding proofList listOver
   number-refusal = go (eqb refusal 0) refl
     where
       refusal : ℕ
       refusal = writeRefusal places d n m x b′ n′ m′ x′
 
-      go : (t : Bool) → eqb refusal 0 ≡ t → cond t (written (chosen places d n m x) b′ n′ m′ x′) (unwritten refusal b′ n′ m′ x′) .number ≡ 0 → refusal ≡ 0
+      go : (t : Bool) → eqb refusal 0 ≡ t → cond t (listOver (chosen places d n m x) b′ n′ m′ x′) (record { number = refusal; len = 0; bytes = b′; ends = n′; marks = m′; indexes = x′ }) .number ≡ 0 → refusal ≡ 0
       go true e h = eqb-true refusal 0 e
       go false e h = h
 
   module _ (W : r .number ≡ 0) where
-    is-written : r ≡ written (chosen places d n m x) b′ n′ m′ x′
-    unfolding proofWritten
+    is-written : r ≡ listOver (chosen places d n m x) b′ n′ m′ x′
+    unfolding proofList
     is-written = rw (eq-eqb (writeRefusal places d n m x b′ n′ m′ x′) 0 (number-refusal W))
 
     refusals : (listCheck d n m x ≡ 0) × (length places ≤ 65536) × (placeOut (length n) places ≡ false)
@@ -155,7 +155,7 @@ module _ (places d n m x b′ n′ m′ x′ : List ℕ) where
     module _ (E : List ℕ → List ℕ → List ℕ → List ℕ → Type 0) where
       parts : E (joined es) (endsFrom 0 es) (marksOf es) (indexesOf es)
           → E (take (r .len) (r .bytes)) (take (length places) (r .ends)) (take (length places) (r .marks)) (take (length places) (r .indexes))
-      unfolding written
+      unfolding listOver
       parts h =
           let K = length-map places (elementAt (elements d n m x)) in
           rw (

@@ -1,0 +1,36 @@
+// The numbers of the specification's table in words: the one list of them, for every program.
+use crate::say::say;
+use crate::say::say_figure;
+
+// What a number means, whichever call gives it.
+fn say_meaning(number: u64) {
+    match number {
+        1 => say(b"the set size is not 1 to 32768"),
+        2 => say(
+            b"a setting is over its limit: proof size 1024, tries 65535, width 4294967295, bound 281474976710656",
+        ),
+        3 => say(b"q is below 0, above 1 or no number"),
+        4 => say(b"the list of elements is malformed"),
+        5 => say(b"over 65536 elements, or over 4096 data bytes in one"),
+        6 => say(b"the room to search in is too short"),
+        10 => say(b"fewer elements than the set size"),
+        11 => say(b"the steps reached the bound"),
+        12 => say(b"the steps stayed below the bound"),
+        20 => say(b"the proof's length is not the proof size"),
+        21 => say(b"R is not below the number of tries, or S not below the width"),
+        22 => say(b"the proof's chain doesn't exist or doesn't pass"),
+        30 => say(b"the proof size is not 1 to 1024"),
+        31 => say(b"the completeness is no number, below 0 or above 65535"),
+        42 => say(b"the proof's elements have over 524288 data bytes, for which there is no room"),
+        _ => {}
+    }
+}
+
+// An outcome's number and what it means, after a word for its kind.
+pub fn say_outcome(kind: &[u8], number: u64) {
+    say(kind);
+    say_figure(b", number ", number);
+    say(b": ");
+    say_meaning(number);
+    say(b"\n");
+}
