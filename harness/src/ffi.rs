@@ -28,6 +28,16 @@ extern "C" {
         data: *const u8, data_len: usize, ends: *const u8, ends_len: usize,
         marks: *const u8, marks_len: usize, indexes: *const u8, indexes_len: usize,
     ) -> u32;
+    fn alba_write_ticket(
+        retry: u64, search: u64,
+        data: *const u8, data_len: usize, ends: *const u32, ends_len: usize,
+        marks: *const u8, marks_len: usize, indexes: *const u64, indexes_len: usize,
+        ticket: *mut u8, ticket_len: usize, out: *mut u64, out_len: usize,
+    ) -> u32;
+    fn alba_read_ticket(
+        ticket: *const u8, ticket_len: usize, data: *mut u8, data_len: usize, ends: *mut u32, ends_len: usize,
+        marks: *mut u8, marks_len: usize, indexes: *mut u64, indexes_len: usize, out: *mut u64, out_len: usize,
+    ) -> u32;
 }
 
 /// set_size is out of range.
@@ -68,6 +78,12 @@ pub const INVALID_PROOF: u32 = 22;
 pub const BAD_U: u32 = 30;
 /// c is no number from 0 to 65,535.
 pub const BAD_C: u32 = 31;
+/// A ticket's size isn't whole blocks, or a block's check fails.
+pub const DAMAGED_TICKET: u32 = 40;
+/// What a ticket holds is no proof in the layout and within the limits.
+pub const NO_TICKET: u32 = 41;
+/// A lent buffer is too short for what is to be written.
+pub const BUFFER_SHORT: u32 = 42;
 /// The most bytes that the four strings of a hash may have together.
 pub const LONGEST: usize = 1 << 29;
 
@@ -185,6 +201,54 @@ pub fn verify(s: &Settings, retry_counter: u64, search_counter: u64, list: Liste
         alba_verify(
             s.set_size, s.proof_size, s.max_retries, s.search_width, s.dfs_bound, s.q, retry_counter, search_counter,
             data, data_len, ends, ends_len, marks, marks_len, indexes, indexes_len,
+        )
+    }
+}
+
+/// 0, or the number of the refusal, `ticket` untouched then. If `out` has a number or more, the first takes the number of blocks (0 with a
+/// refusal).
+#[rustfmt::skip]
+pub fn write_ticket(
+    retry: u64,
+    search: u64,
+    list: Listed<u32, u64>,
+    ticket: &mut (impl Place + ?Sized),
+    out: &mut (impl Place<u64> + ?Sized),
+) -> u32 {
+    let ((data, data_len), (ends, ends_len)) = (parts(list.data), parts(list.ends));
+    let ((marks, marks_len), (indexes, indexes_len)) = (parts(list.marks), parts(list.indexes));
+    let ((ticket, ticket_len), (out, out_len)) = (ticket.parts(), out.parts());
+    // SAFETY: each pointer is valid for its length, those of the list for reads and the last two for reads and writes.
+    unsafe {
+        alba_write_ticket(
+            retry, search, data, data_len, ends, ends_len, marks, marks_len, indexes, indexes_len, ticket, ticket_len, out, out_len,
+        )
+    }
+}
+
+/// Four places that a list is read into.
+pub struct Rooms<'a, Data: ?Sized, Ends: ?Sized, Indexes: ?Sized> {
+    pub data: &'a mut Data,
+    pub ends: &'a mut Ends,
+    pub marks: &'a mut Data,
+    pub indexes: &'a mut Indexes,
+}
+
+/// 0, or the number of the refusal, the list's places untouched then. If `out` has four numbers or more, the first four take R, S, the
+/// number of elements and that of data bytes (zeros with a refusal).
+#[rustfmt::skip]
+pub fn read_ticket(
+    ticket: Lent,
+    list: Rooms<'_, impl Place + ?Sized, impl Place<u32> + ?Sized, impl Place<u64> + ?Sized>,
+    out: &mut (impl Place<u64> + ?Sized),
+) -> u32 {
+    let ((ticket, ticket_len), (out, out_len)) = (parts(ticket), out.parts());
+    let ((data, data_len), (ends, ends_len)) = (list.data.parts(), list.ends.parts());
+    let ((marks, marks_len), (indexes, indexes_len)) = (list.marks.parts(), list.indexes.parts());
+    // SAFETY: each pointer is valid for its length, the ticket for reads and the others for reads and writes.
+    unsafe {
+        alba_read_ticket(
+            ticket, ticket_len, data, data_len, ends, ends_len, marks, marks_len, indexes, indexes_len, out, out_len,
         )
     }
 }

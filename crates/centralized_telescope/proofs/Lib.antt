@@ -13,6 +13,7 @@ mod VerifierDemand
 mod ProverDemand
 mod DemandHolds
 mod CasesHold
+mod TicketsHold
 -- round.rt
 mod RoundHashes
 -- bins.rt; BinCounting misc.rt too
@@ -34,6 +35,9 @@ mod ProveAnswers
 -- proof_list.rt
 mod ProofWriting
 mod ProofAnswers
+-- blocks.rt
+mod BlockWriting
+mod BlockReading
 -- misc.rt
 mod Merging
 mod Halves
@@ -46,3 +50,7 @@ mod VerdictAnswers
 mod NumbersRead
 -- exports.rt
 mod ExportAnswers
+-- ticket.rt
+mod TicketWriting
+mod TicketReading
+mod TicketAnswers

@@ -101,7 +101,7 @@ ends-more from (k ∷ es) e =
     ap (λ (t : List ℕ). (from + length (k .bytes)) ∷ t)
     (ends-more (from + length (k .bytes)) es e ∙ ap (λ (v : ℕ). endsFrom (from + length (k .bytes)) es ++ (v ∷ [])) l)
 
-over-append : (xs ys s : List ℕ) → take (length xs) (over xs s) ++ (ys ++ drop (length xs + length ys) (over xs s)) ≡ over (xs ++ ys) s
+pub over-append : (xs ys s : List ℕ) → take (length xs) (over xs s) ++ (ys ++ drop (length xs + length ys) (over xs s)) ≡ over (xs ++ ys) s
 over-append xs ys s =
     rw (
       take-at xs (drop (length xs) s) (length xs) refl,
@@ -120,7 +120,7 @@ same K B N M X = rw (K, B, N, M, X)
 
 module _ (es : List Element) (e : Element) (b n m x : List ℕ) where
   -- with those before it written, and its own data, mark and index in hand
-  written-more : (k used : ℕ) (b′ n′ m′ x′ own t : List ℕ) (mark number : ℕ) → proofListOf (w.List used) b′ n′ m′ x′ ≡ listOver es b n m x
+  pub written-more : (k used : ℕ) (b′ n′ m′ x′ own t : List ℕ) (mark number : ℕ) → proofListOf (w.List used) b′ n′ m′ x′ ≡ listOver es b n m x
       → length es ≡ k → k < length n → k < length m → k < length x
       → own ≡ e .bytes → mark ≡ markOf (e .index) → number ≡ numberOf (e .index)
       → t ≡ take used b′ ++ (own ++ drop (used + length own) b′)

@@ -6,6 +6,7 @@ use mathlib.Core.List.{List, [], _∷_}
 use Prim.Native.Nat.{ℕ, _<_}
 use lib.Dec.{eqb}
 use lib.ListN.{length}
+use Rattle.centralized_telescope.specs.Lists.{sameBytes}
 use Rattle.centralized_telescope.specs.Refusals.{refusalNumber}
 use Rattle.centralized_telescope.specs.Elements.{Element, elements, elementAt, listCheck}
 use Rattle.centralized_telescope.specs.declared.misc.Distinctness.{Distinctness}
@@ -16,12 +17,6 @@ abbrev pub Distinct : List Element → Type 0
 Distinct es = (i j : ℕ) → i < j → j < length es → elementAt es i .bytes ≡ elementAt es j .bytes → ⊥
 
 -- ---- the yes or no
-
-unfoldable pub sameBytes : List ℕ → List ℕ → Bool
-sameBytes [] [] = true
-sameBytes [] (y ∷ ys) = false
-sameBytes (x ∷ xs) [] = false
-sameBytes (x ∷ xs) (y ∷ ys) = eqb x y && sameBytes xs ys
 
 -- these data bytes are not those of an element of the list
 unfoldable pub noneSame : List ℕ → List Element → Bool

@@ -13,6 +13,9 @@ pub mod Prover
 pub mod Verifier
 pub mod Exports
 pub mod ProofList
+pub mod Blocks
+pub mod Tickets
+pub mod TicketClaims
 pub mod Demand3
 pub mod AllCases
 pub mod laws

@@ -1,5 +1,5 @@
 -- Words about lists that the definitions share.
-use mathlib.Core.Bool.{Bool, false, cond, _||_}
+use mathlib.Core.Bool.{Bool, true, false, cond, _||_, _&&_}
 use mathlib.Core.List.{List, [], _∷_, _++_, List·Memᴰ}
 use mathlib.Core.Option.{Option, none, some}
 use Prim.Native.Nat.{ℕ, _+_}
@@ -30,6 +30,13 @@ firstOf test (x ∷ xs) = cond (test x) (some x) (firstOf test xs)
 unfoldable pub upToFirst : {A : Type 0} → (A → Bool) → List A → ℕ
 upToFirst test [] = 0
 upToFirst test (x ∷ xs) = cond (test x) 1 (1 + upToFirst test xs)
+
+-- two lists hold the same numbers
+unfoldable pub sameBytes : List ℕ → List ℕ → Bool
+sameBytes [] [] = true
+sameBytes [] (y ∷ ys) = false
+sameBytes (x ∷ xs) [] = false
+sameBytes (x ∷ xs) (y ∷ ys) = eqb x y && sameBytes xs ys
 
 -- a lent buffer with numbers written over its first ones, the rest untouched
 abbrev pub over : List ℕ → List ℕ → List ℕ

@@ -1,5 +1,5 @@
--- 01, Lent and given back, the table: the number of each refusal. Every call's refusal has its number from here. 42 is in no line of 01's:
--- `write_proof` gives it (docs/DECISIONS.md, Lists).
+-- 01, Lent and given back, the table: the number of each refusal; from 40 up 02's. Every call's refusal has its number from here. 42 is also
+-- what `write_proof` gives (docs/DECISIONS.md, Lists).
 use Prim.Native.Nat.{ℕ}
 use Rattle.centralized_telescope.specs.declared.errors.Refusal.{Refusal}
 use Rattle.centralized_telescope.specs.declared.errors.Refusal.the-variants as refusal
@@ -14,4 +14,6 @@ refusalNumber refusal.WorkspaceShort = 6  -- prover: what is lent to work in
 refusalNumber refusal.NotEnoughElements = 10  -- prover: fewer elements than set_size
 refusalNumber refusal.ProofSize = 30  -- small case: u
 refusalNumber refusal.Completeness = 31  -- small case: c
+refusalNumber refusal.DamagedTicket = 40  -- 02, N1, the reader: size or check
+refusalNumber refusal.NoTicket = 41  -- 02, N1, the reader: layout or limits
 refusalNumber refusal.BufferShort = 42  -- a buffer to write into

@@ -5,3 +5,4 @@ pub mod BinPasses
 pub mod Walk
 pub mod Visit
 pub mod Sorting
+pub mod TicketReading

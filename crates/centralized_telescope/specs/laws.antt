@@ -16,3 +16,8 @@ pub mod WalkLaws
 pub mod OneBinLaws
 pub mod VerifierLaws
 pub mod ProofListLaws
+pub mod BytesLaws
+pub mod BlocksLaws
+pub mod BlocksReadLaws
+pub mod TicketsLaws
+pub mod TicketsReadLaws

@@ -23,6 +23,10 @@ pub enum Refusal {
     ProofSize,
     // the small case's c
     Completeness,
+    // a ticket's size isn't whole blocks, or a block's check fails
+    DamagedTicket,
+    // whole blocks with their checks, and no proof within the limits has them as its ticket
+    NoTicket,
     // a lent buffer has no room for what is to be written
     BufferShort,
 }
@@ -41,6 +45,8 @@ pub fn refusal_number(k: Refusal) -> u32
         Refusal::NotEnoughElements => 10,
         Refusal::ProofSize => 30,
         Refusal::Completeness => 31,
+        Refusal::DamagedTicket => 40,
+        Refusal::NoTicket => 41,
         Refusal::BufferShort => 42,
     }
 }

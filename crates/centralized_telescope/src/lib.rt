@@ -1,6 +1,7 @@
 // The centralized telescope over what `sampling` promises. What is named here is all that a user sees.
 
 mod bins;
+mod blocks;
 mod errors;
 mod exports;
 mod misc;
@@ -11,6 +12,7 @@ mod proof_list;
 mod round;
 mod telescope;
 mod theorems;
+mod ticket;
 mod types;
 
 pub use errors::Refusal;
@@ -37,5 +39,13 @@ pub use theorems::all_cases;
 pub use theorems::demand_3;
 pub use theorems::distinct_exactly;
 pub use theorems::served_example;
+pub use theorems::ticket_judged_alike;
+pub use theorems::ticket_reads_back;
+pub use theorems::ticket_writes_back;
+pub use theorems::tickets_exactly;
+pub use ticket::TicketBlocks;
+pub use ticket::TicketProof;
+pub use ticket::read_ticket;
+pub use ticket::write_ticket;
 pub use types::ListCheck;
 pub use types::check_list;

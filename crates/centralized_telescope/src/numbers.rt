@@ -1,7 +1,8 @@
-// Numbers: as places, the lower of two, and out of bytes.
+// Numbers as places, the lower of two, and out of bytes; and bytes to a place.
 ghost use mathlib.Core.Path.{_≡_};
+ghost use mathlib.Core.List.{_++_};
 ghost use Prim.Native.Nat.{_+_, _^_, _<_, _≤_, min};
-ghost use lib.ListN.{length, drop};
+ghost use lib.ListN.{length, take, drop};
 ghost use Rattle.sampling.specs.BigEndian.{bigEndian};
 use sampling::number_of;
 
@@ -29,4 +30,12 @@ pub fn number(bytes: &[u8], at: usize, k: usize) -> u64
 {
     let end = at + k;
     number_of(&bytes[at..end])
+}
+
+// Copies bytes to a place of a buffer that has room for them.
+pub fn copy_at(part: &[u8], at: usize, out: &mut [u8])
+    requires { ⌜ at + length (now part) ≤ length (now out) ⌝ }
+    ensures { λ _. ⌜ now (out .exit) ≡ take at (now (out .entry)) ++ (now (part .entry) ++ drop (at + length (now (part .entry))) (now (out .entry))) ⌝ }
+{
+    bytes::copy(part, &mut out[at..]);
 }

@@ -2,14 +2,14 @@
 // written out into lent buffers.
 ghost use mathlib.Core.Path.{_≡_};
 ghost use mathlib.Core.Bool.{false};
-ghost use mathlib.Core.List.{_++_};
-ghost use Prim.Native.Nat.{_+_, _<_, _≤_};
+ghost use Prim.Native.Nat.{_≤_};
 ghost use lib.Dec.{ltb};
-ghost use lib.ListN.{length, take, drop};
+ghost use lib.ListN.{length};
 ghost use Rattle.centralized_telescope.specs.Elements.{endWrong, listCheck};
 ghost use Rattle.centralized_telescope.specs.ProofList.{placeOut, joined, chosen, listOver, buffersShort, proofList, proofListOf};
 ghost use Rattle.centralized_telescope.specs.inner.ListReading.{dataOf};
 use crate::errors::Refusal;
+use crate::numbers::copy_at;
 use crate::types::ListCheck;
 use crate::types::check_list;
 use crate::types::data_of;
@@ -79,14 +79,6 @@ fn some_buffer_short(
         return true;
     }
     is_data_over(places, data, ends, data_room)
-}
-
-// Copies an element's data bytes to the place `used` of a buffer that has room for them.
-fn copy_at(own: &[u8], used: usize, out: &mut [u8])
-    requires { ⌜ used + length (now own) ≤ length (now out) ⌝ }
-    ensures { λ _. ⌜ now (out .exit) ≡ take used (now (out .entry)) ++ (now (own .entry) ++ drop (used + length (now (own .entry))) (now (out .entry))) ⌝ }
-{
-    bytes::copy(own, &mut out[used..]);
 }
 
 // Writes the elements at the places into buffers that have room for them.

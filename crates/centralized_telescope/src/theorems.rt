@@ -3,6 +3,7 @@
 ghost use Rattle.centralized_telescope.specs.AllCases.{AllCases};
 ghost use Rattle.centralized_telescope.specs.Demand3.{demand3, servedExample};
 ghost use Rattle.centralized_telescope.specs.Distinct.{distinctExactly};
+ghost use Rattle.centralized_telescope.specs.TicketClaims.{readsBack, writesBack, judgedAlike, ticketsExactly};
 
 // The claim on prove and verify at once, for every run that is served.
 pub fn demand_3()
@@ -22,4 +23,25 @@ pub fn all_cases()
 // On an accepted list the answer of `check_distinct` is yes exactly when at any two places the data differ.
 pub fn distinct_exactly()
     ensures { λ _. ⌜ distinctExactly ⌝ }
+{}
+
+// A ticket written and read, into buffers with room, gives R, S and the elements that were written.
+pub fn ticket_reads_back()
+    ensures { λ _. ⌜ readsBack ⌝ }
+{}
+
+// What was read from a ticket, written into a buffer with room, gives the ticket.
+pub fn ticket_writes_back()
+    ensures { λ _. ⌜ writesBack ⌝ }
+{}
+
+// The verdict on a proof that was written and read is the one on the proof.
+pub fn ticket_judged_alike()
+    ensures { λ _. ⌜ judgedAlike ⌝ }
+{}
+
+// Of whole blocks whose checks hold, the reader's 41 is for those that are no proof's ticket; 40 is for damaged bytes, 42 for a proof's ticket
+// and a buffer too short. No two proofs have one ticket.
+pub fn tickets_exactly()
+    ensures { λ _. ⌜ ticketsExactly ⌝ }
 {}

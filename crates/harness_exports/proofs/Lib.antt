@@ -1,3 +1,4 @@
 -- The laws that the proofs of `harness_exports` share.
 mod Answer
 mod ProverNumbers
+mod TicketNumbers

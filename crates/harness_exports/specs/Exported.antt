@@ -9,9 +9,14 @@ use Rattle.sampling.specs.Hash.{hashed}
 use Rattle.centralized_telescope.specs.Distinct.{distinct}
 use Rattle.centralized_telescope.specs.Params.{smallCase}
 use Rattle.centralized_telescope.specs.Prover.{Proved, proved, provedBy}
+use Rattle.centralized_telescope.specs.Tickets.{TicketWritten, ticketWritten, ticketWrittenBy, TicketRead, ticketRead, ticketReadBy}
 use Rattle.centralized_telescope.specs.declared.params.Params.{Params}
 use Rattle.centralized_telescope.specs.declared.proof.ProofSearch.{ProofSearch}
+use Rattle.centralized_telescope.specs.declared.ticket.TicketBlocks.{TicketBlocks}
+use Rattle.centralized_telescope.specs.declared.ticket.TicketProof.{TicketProof}
 use Rattle.harness_exports.specs.declared.Numbers.{Numbers}
+use Rattle.harness_exports.specs.declared.BlocksNumbers.{BlocksNumbers}
+use Rattle.harness_exports.specs.declared.ReadNumbers.{ReadNumbers}
 use Rattle.centralized_telescope.specs.declared.params.SmallSettings.{SmallSettings}
 
 -- the hash of m: its number, and the lent bytes afterwards; 8 where they aren't 32
@@ -62,3 +67,39 @@ unfoldable pub exportedProve : Params → List ℕ → List ℕ → List ℕ →
 exportedProve p bytes ends marks indexes places table out =
     let r : Proved = proved p bytes ends marks indexes places table in
     (r .number, r .places, r .table, withCounters (inNumbers r) out)
+
+-- ---- tickets
+
+-- the numbers of the writer's answer
+abbrev pub inBlocksNumbers : TicketWritten → BlocksNumbers
+inBlocksNumbers r = record { number = r .number; blocks = r .count }
+
+abbrev pub blocksNumbers : TicketBlocks → BlocksNumbers
+blocksNumbers a = inBlocksNumbers (ticketWrittenBy a [])
+
+-- the number of blocks in the first lent number, where there is one
+unfoldable pub withBlocks : BlocksNumbers → List ℕ → List ℕ
+withBlocks n out = cond (leb 1 (length out)) (n .blocks ∷ drop 1 out) out
+
+-- the number, and the lent blocks and numbers afterwards
+unfoldable pub exportedWriteTicket : ℕ → ℕ → List ℕ → List ℕ → List ℕ → List ℕ → List ℕ → List ℕ → ℕ × List ℕ × List ℕ
+exportedWriteTicket R S bytes ends marks indexes blocks out =
+    let r : TicketWritten = ticketWritten R S bytes ends marks indexes blocks in
+    (r .number, r .buffer, withBlocks (inBlocksNumbers r) out)
+
+-- the numbers of the reader's answer
+abbrev pub inReadNumbers : TicketRead → ReadNumbers
+inReadNumbers r = record { number = r .number; retry = r .retry; search = r .search; count = r .count; len = r .len }
+
+abbrev pub readNumbers : TicketProof → ReadNumbers
+readNumbers a = inReadNumbers (ticketReadBy a [] [] [] [])
+
+-- R, S, the number of elements and that of data bytes in the first four lent numbers, where there are as many
+unfoldable pub withRead : ReadNumbers → List ℕ → List ℕ
+withRead n out = cond (leb 4 (length out)) (n .retry ∷ n .search ∷ n .count ∷ n .len ∷ drop 4 out) out
+
+-- the number, and the lent list and numbers afterwards
+unfoldable pub exportedReadTicket : List ℕ → List ℕ → List ℕ → List ℕ → List ℕ → List ℕ → ℕ × List ℕ × List ℕ × List ℕ × List ℕ × List ℕ
+exportedReadTicket t bytes ends marks indexes out =
+    let r : TicketRead = ticketRead t bytes ends marks indexes in
+    (r .number, r .bytes, r .ends, r .marks, r .indexes, withRead (inReadNumbers r) out)

@@ -6,12 +6,16 @@ ghost use lib.Dec.{T};
 ghost use lib.Ieee.{isNan};
 ghost use lib.ListN.{length};
 ghost use Rattle.centralized_telescope.specs.Exports.{settingsOf};
-ghost use Rattle.harness_exports.specs.Exported.{exportedHash, five, exportedSmallCase, exportedDistinct, withoutProof, numbersOf, withCounters, exportedProve};
+ghost use Rattle.harness_exports.specs.Exported.{exportedHash, five, exportedSmallCase, exportedDistinct, withoutProof, numbersOf, withCounters, exportedProve, blocksNumbers, withBlocks, exportedWriteTicket, readNumbers, withRead, exportedReadTicket};
 use centralized_telescope::Distinctness;
 use centralized_telescope::Params;
 use centralized_telescope::ProofSearch;
+use centralized_telescope::RetryCounter;
+use centralized_telescope::SearchCounter;
 use centralized_telescope::SmallCase;
 use centralized_telescope::SmallSettings;
+use centralized_telescope::TicketBlocks;
+use centralized_telescope::TicketProof;
 use centralized_telescope::proof_search_number;
 use centralized_telescope::refusal_number;
 
@@ -156,5 +160,124 @@ pub extern "C" fn alba_prove(
     let answer = centralized_telescope::prove(p, data, ends, marks, indexes, places, table);
     let n = numbers_of(answer);
     put_counters(n, out);
+    n.number
+}
+
+// What the writer of tickets answers, in numbers.
+pub struct BlocksNumbers {
+    pub number: u32,
+    pub blocks: u64,
+}
+
+fn blocks_numbers(answer: TicketBlocks) -> BlocksNumbers
+    ensures { λ r. ⌜ r ≡ blocksNumbers answer ⌝ }
+{
+    match answer {
+        TicketBlocks::Written(n) => BlocksNumbers {
+            number: 0,
+            blocks: n as u64,
+        },
+        TicketBlocks::Refused(k) => BlocksNumbers {
+            number: refusal_number(k),
+            blocks: 0,
+        },
+    }
+}
+
+// The number of blocks into the first lent number, if there is one.
+fn put_blocks(n: BlocksNumbers, out: &mut [u64])
+    ensures { λ r. ⌜ now (out .exit) ≡ withBlocks n (now (out .entry)) ⌝ }
+{
+    if 1 <= out.len() {
+        out[0] = n.blocks;
+    }
+}
+
+// The writer of tickets: 0 or the number. `out` takes the number of blocks, 0 with a refusal, where it has a number or more.
+#[no_mangle]
+pub extern "C" fn alba_write_ticket(
+    retry: u64,
+    search: u64,
+    data: &[u8],
+    ends: &[u32],
+    marks: &[u8],
+    indexes: &[u64],
+    ticket: &mut [u8],
+    out: &mut [u64],
+) -> u32
+    ensures { λ r. ⌜ (r, now («ticket» .exit), now (out .exit)) ≡ exportedWriteTicket retry search (now («data» .entry)) (now (ends .entry)) (now (marks .entry)) (now (indexes .entry)) (now («ticket» .entry)) (now (out .entry)) ⌝ }
+{
+    let answer = centralized_telescope::write_ticket(
+        RetryCounter(retry),
+        SearchCounter(search),
+        data,
+        ends,
+        marks,
+        indexes,
+        ticket,
+    );
+    let n = blocks_numbers(answer);
+    put_blocks(n, out);
+    n.number
+}
+
+// What the reader of tickets answers, in numbers.
+pub struct ReadNumbers {
+    pub number: u32,
+    pub retry: u64,
+    pub search: u64,
+    pub count: u64,
+    pub len: u64,
+}
+
+fn read_numbers(answer: TicketProof) -> ReadNumbers
+    ensures { λ r. ⌜ r ≡ readNumbers answer ⌝ }
+{
+    match answer {
+        TicketProof::Read(retry, search, count, len) => ReadNumbers {
+            number: 0,
+            retry: retry.0,
+            search: search.0,
+            count: count as u64,
+            len: len as u64,
+        },
+        TicketProof::Refused(k) => ReadNumbers {
+            number: refusal_number(k),
+            retry: 0,
+            search: 0,
+            count: 0,
+            len: 0,
+        },
+    }
+}
+
+// R, S, the number of elements and that of data bytes into the first four lent numbers, if there are as many.
+fn put_read(n: ReadNumbers, out: &mut [u64])
+    ensures { λ r. ⌜ now (out .exit) ≡ withRead n (now (out .entry)) ⌝ }
+{
+    if 4 <= out.len() {
+        out[0] = n.retry;
+        out[1] = n.search;
+        out[2] = n.count;
+        out[3] = n.len;
+    }
+}
+
+// The reader of tickets: 0 or the number. `out` takes R, S, the number of elements and that of data bytes, zeros with a refusal, where it
+// has four numbers or more.
+#[no_mangle]
+pub extern "C" fn alba_read_ticket(
+    ticket: &[u8],
+    data: &mut [u8],
+    ends: &mut [u32],
+    marks: &mut [u8],
+    indexes: &mut [u64],
+    out: &mut [u64],
+) -> u32
+    ensures { λ r. ⌜ (r, now («data» .exit), now (ends .exit), now (marks .exit), now (indexes .exit), now (out .exit)) ≡ exportedReadTicket (now («ticket» .entry)) (now («data» .entry)) (now (ends .entry)) (now (marks .entry)) (now (indexes .entry)) (now (out .entry)) ⌝ }
+{
+    let answer = centralized_telescope::read_ticket(ticket, data, ends, marks, indexes);
+    let n = read_numbers(answer);
+    put_read(n, out);
     n.number
 }

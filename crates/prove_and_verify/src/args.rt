@@ -1,25 +1,14 @@
 // The program's arguments.
-ghost use Rattle.io.specs.Counts.{Counts};
+use proof_files::say_wrong;
 use text::double;
 use text::hex;
 use text::number;
 use text::number::Number;
-use text::say::say;
-use text::say::say_figure;
 
 // A double, where an argument writes one.
 pub struct Double {
     pub known: bool,
     pub value: f64,
-}
-
-fn say_wrong(i: usize, name: &[u8], wanted: &[u8]) {
-    say_figure(b"argument ", i as u64);
-    say(b", ");
-    say(name);
-    say(b": expected ");
-    say(wanted);
-    say(b"\n");
 }
 
 // Argument i as the number that it writes in decimal, or a message.
@@ -102,15 +91,4 @@ pub fn completeness(i: usize, name: &[u8]) -> Double {
         );
     }
     read
-}
-
-// Argument i, a file's name, at the start of `path`: how many bytes. 0 and a message where it is empty or doesn't fit.
-pub fn path(i: usize, name: &[u8], path: &mut [u8]) -> usize
-    ensures { λ r. ⌜ Counts r (now (path .exit)) ⌝ }
-{
-    let n = os::arg(i, path);
-    if n == 0 {
-        say_wrong(i, name, b"the name of a file, of 1 to 4096 bytes");
-    }
-    n
 }

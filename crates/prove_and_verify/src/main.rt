@@ -9,7 +9,6 @@
 // double's bits; Q is such 16 digits. There is room for 65,536 elements of 1,048,576 data bytes in all, and for 524,288 data bytes in a
 // proof: with the deepest search, that is what fits the system's ordinary stack of 8 MB.
 mod args;
-mod elements_file;
 mod proof_file;
 mod report;
 mod search;
@@ -42,8 +41,8 @@ fn main() {
         settings::Asked::Usage => say_usage(),
         settings::Asked::Refused => {}
         settings::Asked::Settings(p) => {
-            let n = args::path(1, b"ELEMENTS", &mut elements);
-            let m = args::path(2, b"PROOF", &mut proof);
+            let n = proof_files::path(1, b"ELEMENTS", &mut elements);
+            let m = proof_files::path(2, b"PROOF", &mut proof);
             if n != 0 && m != 0 {
                 search::run(p, &elements[..n], &proof[..m]);
             }

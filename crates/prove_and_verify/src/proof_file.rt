@@ -1,7 +1,6 @@
 // A proof written out as a list, into its file, and verified.
 ghost use mathlib.Core.Path.{_≡_};
 ghost use lib.ListN.{length};
-use crate::report::say_of_file;
 use crate::report::say_refused;
 use centralized_telescope::Params;
 use centralized_telescope::RetryCounter;
@@ -9,8 +8,12 @@ use centralized_telescope::SearchCounter;
 use centralized_telescope::Verdict;
 use centralized_telescope::Written;
 use centralized_telescope::verdict_number;
-use text::elements;
-use text::least;
+use proof_files::CountersLine;
+use proof_files::first_bytes;
+use proof_files::first_indexes;
+use proof_files::first_numbers;
+use proof_files::is_proof_written;
+use proof_files::say_of_file;
 use text::outcome::say_outcome;
 use text::say::say;
 
@@ -25,70 +28,6 @@ fn data_room() -> [u8; 524288]
     ensures { λ r. ⌜ 524288 ≡ length r ⌝ }
 {
     [0; 524288]
-}
-
-// The first n, or all where there are fewer.
-fn first_bytes(xs: &[u8], n: usize) -> &[u8] {
-    let end = least(n, xs.len());
-    &xs[0..end]
-}
-
-pub fn first_numbers(xs: &[u32], n: usize) -> &[u32] {
-    let end = least(n, xs.len());
-    &xs[0..end]
-}
-
-fn first_indexes(xs: &[u64], n: usize) -> &[u64] {
-    let end = least(n, xs.len());
-    &xs[0..end]
-}
-
-// The line `proof R S`.
-fn write_counters(fd: i32, counters: Counters) -> bool {
-    let retry = counters.retry;
-    let search = counters.search;
-    if !io::write_all(fd, b"proof ") {
-        return false;
-    }
-    if !io::print_decimal(fd, retry.0) {
-        return false;
-    }
-    if !io::write_all(fd, b" ") {
-        return false;
-    }
-    if !io::print_decimal(fd, search.0) {
-        return false;
-    }
-    io::write_all(fd, b"\n")
-}
-
-fn write_elements(fd: i32, data: &[u8], ends: &[u32], marks: &[u8], indexes: &[u64]) -> bool {
-    let mut i = 0;
-    while i < ends.len() {
-        if !elements::write_line(fd, data, ends, marks, indexes, i) {
-            return false;
-        }
-        i += 1;
-    }
-    true
-}
-
-// Whether the file could be made, as a new one, and written whole.
-fn is_written(
-    name: &[u8],
-    counters: Counters,
-    data: &[u8],
-    ends: &[u32],
-    marks: &[u8],
-    indexes: &[u64],
-) -> bool {
-    let fd = os::create(name);
-    if fd < 0 {
-        return false;
-    }
-    let is_whole = write_counters(fd, counters) && write_elements(fd, data, ends, marks, indexes);
-    let is_closed = libc::close(fd) == 0;
-    is_whole && is_closed
 }
 
 fn say_verdict(verdict: Verdict) {
@@ -110,7 +49,13 @@ fn finish(
     marks: &[u8],
     indexes: &[u64],
 ) {
-    if !is_written(name, counters, data, ends, marks, indexes) {
+    let retry = counters.retry;
+    let search = counters.search;
+    let line = CountersLine {
+        retry: retry.0,
+        search: search.0,
+    };
+    if !is_proof_written(name, line, data, ends, marks, indexes) {
         say_of_file(name, b"can't be written");
         return;
     }

@@ -1,14 +1,15 @@
 // The search for a proof, and what came of it.
 ghost use mathlib.Core.Path.{_≡_};
 ghost use lib.ListN.{length};
-use crate::elements_file;
 use crate::proof_file;
 use crate::proof_file::Counters;
-use crate::report::say_of_file;
 use crate::settings;
 use centralized_telescope::Params;
 use centralized_telescope::ProofSearch;
 use centralized_telescope::proof_search_number;
+use proof_files::first_numbers;
+use proof_files::is_there;
+use proof_files::say_of_file;
 use text::outcome::say_outcome;
 use text::say::say;
 use text::say::say_figure;
@@ -73,7 +74,7 @@ fn search(p: Params, proof: &[u8], data: &[u8], ends: &[u32], marks: &[u8], inde
     match found {
         ProofSearch::Found(retry, search, count) => {
             let counters = Counters { retry, search };
-            let chain = proof_file::first_numbers(&places, p.proof_size as usize);
+            let chain = first_numbers(&places, p.proof_size as usize);
             say_found(counters, count, chain);
             proof_file::write_and_verify(p, proof, counters, chain, data, ends, marks, indexes);
         }
@@ -91,16 +92,6 @@ fn say_task(p: Params, elements: &[u8], n: usize) {
     say(b"\n");
 }
 
-// Whether there is a file of this name.
-fn is_there(name: &[u8]) -> bool {
-    let fd = os::open_read(name);
-    if fd < 0 {
-        return false;
-    }
-    libc::close(fd);
-    true
-}
-
 // Reads the file of elements, searches, and writes the proof's file. That one must be new: nothing is written over, the elements least of
 // all, whatever path or link leads there. It is asked before the search, which may be long.
 pub fn run(p: Params, elements: &[u8], proof: &[u8]) {
@@ -111,11 +102,11 @@ pub fn run(p: Params, elements: &[u8], proof: &[u8]) {
         );
         return;
     }
-    let mut data = elements_file::data_room();
-    let mut ends = elements_file::ends_room();
-    let mut marks = elements_file::marks_room();
-    let mut indexes = elements_file::indexes_room();
-    let list = elements_file::read(elements, &mut data, &mut ends, &mut marks, &mut indexes);
+    let mut data = proof_files::data_room();
+    let mut ends = proof_files::ends_room();
+    let mut marks = proof_files::marks_room();
+    let mut indexes = proof_files::indexes_room();
+    let list = proof_files::read_elements(elements, &mut data, &mut ends, &mut marks, &mut indexes);
     if !list.whole {
         return;
     }

@@ -29,7 +29,7 @@ pub fn number_of(bytes: &[u8]) -> u64
 }
 
 // v into lent bytes, as many as there are: written from the last byte to the first.
-pub fn write(v: u64, out: &mut [u8])
+pub fn write_number(v: u64, out: &mut [u8])
     ensures { λ r. ⌜ now (out .exit) ≡ bytesOf (length (now (out .entry))) v ⌝ }
 {
     let mut rest = v;
@@ -46,6 +46,6 @@ pub fn eight_bytes(v: u64) -> [u8; 8]
     ensures { λ r. ⌜ r ≡ bytesOf 8 v ⌝ }
 {
     let mut out = [0u8; 8];
-    write(v, &mut out);
+    write_number(v, &mut out);
     out
 }

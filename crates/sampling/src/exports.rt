@@ -71,7 +71,7 @@ pub extern "C" fn alba_sample_uniform(h: &[u8], n: u64, out: &mut [u8]) -> u32
     let d = sample_uniform(seed_of(h), n);
     let number = draw_number(d);
     if number == 0 {
-        big_endian::write(draw_value(d), out);
+        big_endian::write_number(draw_value(d), out);
     }
     number
 }

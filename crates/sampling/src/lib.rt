@@ -8,6 +8,7 @@ pub mod sha256;
 
 pub use big_endian::eight_bytes;
 pub use big_endian::number_of;
+pub use big_endian::write_number;
 pub use sample::Chance;
 pub use sample::Draw;
 pub use sample::Threshold;

@@ -309,7 +309,7 @@ fn digest_of(s: State) -> [u8; 32]
     while n < 8 {
         let at = 4 * n;
         let end = at + 4;
-        big_endian::write(wide(words[n]), &mut d[at..end]);
+        big_endian::write_number(wide(words[n]), &mut d[at..end]);
         n += 1;
     }
     d

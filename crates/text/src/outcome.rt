@@ -21,7 +21,9 @@ fn say_meaning(number: u64) {
         22 => say(b"the proof's chain doesn't exist or doesn't pass"),
         30 => say(b"the proof size is not 1 to 1024"),
         31 => say(b"the completeness is no number, below 0 or above 65535"),
-        42 => say(b"the proof's elements have over 524288 data bytes, for which there is no room"),
+        40 => say(b"the ticket's size is not whole blocks, or a block's check fails"),
+        41 => say(b"what the ticket's blocks hold is no proof"),
+        42 => say(b"more than there is room for"),
         _ => {}
     }
 }

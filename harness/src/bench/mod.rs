@@ -7,6 +7,7 @@ mod measure;
 mod openssl;
 mod searches;
 mod steps;
+mod tickets;
 
 use crate::{
     args::{Bench, AGAIN},
@@ -30,6 +31,7 @@ pub fn run(part: Bench) -> Result<(), String> {
     println!("| work | against | ours | theirs | ours / theirs |\n|---|---|---|---|---|");
     match part {
         Bench::Steps => steps::run(),
+        Bench::Tickets => tickets::run(),
         _ => whole(),
     }
 }
@@ -43,6 +45,7 @@ fn whole() -> Result<(), String> {
     distinctness();
     searches::run()?;
     steps::run()?;
+    tickets::run()?;
     println!("\nThe ratio is of speeds: 1.00 is as fast, above it faster. Times are the thread's own; times and ratios are medians of {ROUNDS} rounds,");
     println!("those of searches medians over their seeds; where nothing is found it is one search.");
     Ok(())

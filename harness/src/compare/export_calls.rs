@@ -1,4 +1,5 @@
-//! Each export with arguments whose answer is known, made by the library and worked out by the Rust and the specification's table.
+//! Each export with arguments whose answer is known, made by the library and worked out by the Rust, the specification's table and the
+//! harness's own tickets.
 
 use super::parameters::Args;
 use super::searches::Outcome;
@@ -6,11 +7,13 @@ use super::verdicts::Claim;
 use super::{rules, searches, small_case, verifier_refusals};
 use crate::{
     ffi,
-    ffi::{Listed, Settings},
+    ffi::{Listed, Rooms, Settings},
     list::{List, Written},
     original,
     original::ProofOf,
     rng::Rng,
+    ticket,
+    ticket::Proof,
 };
 use sha2::{Digest, Sha256};
 
@@ -29,7 +32,7 @@ pub struct Export {
 const SEED: u64 = 0x43_c389_a516;
 
 pub fn all() -> Result<Vec<Export>, String> {
-    Ok(vec![uniform(), bernoulli(), hash(), small(), distinct(), prove()?, verify()?])
+    Ok(vec![uniform(), bernoulli(), hash(), small(), distinct(), prove()?, verify()?, write_ticket(), read_ticket()])
 }
 
 /// Parameters: h, n, out.
@@ -163,6 +166,55 @@ fn verify() -> Result<Export, String> {
         Ok(verifier_refusals::due(&settings(args), &written(args)).map_or_else(|number| number, judge))
     };
     Ok(Export { name: "alba_verify", args, answer: 0, ours, due })
+}
+
+/// Parameters: retry, search, data, ends, marks, indexes, ticket, out. The data are lawful marks and the marks lawful data.
+fn write_ticket() -> Export {
+    let args = Args {
+        numbers: vec![3, 4],
+        bytes: vec![vec![0, 1], vec![1, 1], vec![0xa5; 600]],
+        words: vec![vec![1, 2]],
+        longs: vec![vec![8, 9], vec![7; 2]],
+        ..Args::default()
+    };
+    let ours = |args: &mut Args| {
+        let ([data, marks, ticket], [indexes, out]) = (&mut args.bytes[..], &mut args.longs[..]) else { unreachable!("three and two") };
+        let list = Listed { data: Some(data), ends: Some(&args.words[0]), marks: Some(marks), indexes: Some(indexes) };
+        ffi::write_ticket(args.numbers[0], args.numbers[1], list, &mut ticket[..], &mut out[..])
+    };
+    let due = |args: &mut Args| {
+        let list = list_of(args);
+        let answer = ticket::write(args.numbers[0], args.numbers[1], &list, &mut args.bytes[2]);
+        args.longs[1][0] = answer.map_or(0, |blocks| blocks as u64);
+        Ok(answer.err().unwrap_or(0))
+    };
+    Export { name: "alba_write_ticket", args, answer: 0, ours, due }
+}
+
+/// Parameters: ticket, data, ends, marks, indexes, out. Each buffer has room for what belongs into another of its type.
+fn read_ticket() -> Export {
+    let mut list = List::default();
+    list.push(b"ab", Some(9), 0);
+    list.push(b"c", None, 0);
+    let args = Args {
+        bytes: vec![ticket::of(&Proof { retry: 3, search: 4, list }), vec![0xa5; 600], vec![0x5a; 600]],
+        words: vec![vec![7; 5]],
+        longs: vec![vec![7; 5], vec![6; 5]],
+        ..Args::default()
+    };
+    let ours = |args: &mut Args| {
+        let ([ticket, data, marks], [indexes, out]) = (&mut args.bytes[..], &mut args.longs[..]) else { unreachable!("three and two") };
+        let rooms = Rooms { data: &mut data[..], ends: &mut args.words[0][..], marks: &mut marks[..], indexes: &mut indexes[..] };
+        ffi::read_ticket(Some(ticket), rooms, &mut out[..])
+    };
+    let due = |args: &mut Args| {
+        let ([ticket, data, marks], [indexes, out]) = (&mut args.bytes[..], &mut args.longs[..]) else { unreachable!("three and two") };
+        let answer = ticket::read(ticket, data, &mut args.words[0], marks, indexes);
+        let told = answer.unwrap_or_default();
+        out[..4].copy_from_slice(&[told.retry, told.search, told.count as u64, told.len as u64]);
+        Ok(answer.err().unwrap_or(0))
+    };
+    Export { name: "alba_read_ticket", args, answer: 0, ours, due }
 }
 
 /// A list of which the Rust finds a proof that is wanted, and the proof.

@@ -40,6 +40,8 @@ pub fn in_list(rng: &mut Rng, list: &mut List) {
 
 /// How many kinds of faults a list can have here.
 pub const IN_LISTS: u64 = 9;
+/// The one that makes a list very long.
+pub const TOO_MANY: u64 = 7;
 
 /// A fault of this kind, where it has a place at this one.
 pub fn at_place(rng: &mut Rng, list: &mut List, fault: u64, place: usize) {
@@ -58,7 +60,7 @@ pub fn at_place(rng: &mut Rng, list: &mut List, fault: u64, place: usize) {
             set(&mut list.ends, place, end as u32);
         }
         6 => list.push(&[0x11; BYTES + 1], None, 0),
-        7 => {
+        TOO_MANY => {
             let over = ELEMENTS + 1 + rng.below(9) as usize;
             (list.len()..over).for_each(|_| list.push(&[], None, 0));
         }

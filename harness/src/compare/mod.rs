@@ -2,6 +2,7 @@
 
 pub mod bernoulli;
 pub mod blocks;
+mod changed_tickets;
 pub mod distinct;
 mod export_calls;
 pub mod faults;
@@ -14,6 +15,7 @@ pub mod refusals;
 pub mod rules;
 pub mod searches;
 pub mod small_case;
+pub mod tickets;
 pub mod uniform;
 pub mod verdicts;
 pub mod verifier_refusals;
@@ -34,7 +36,7 @@ type Kind = fn(&mut Run, u64) -> Checked;
 
 pub fn run(options: &Compare) -> Checked {
     println!("seed 0x{:016x}, {} random cases", options.seed, options.cases);
-    let kinds: [(&str, Kind, u64); 13] = [
+    let kinds: [(&str, Kind, u64); 14] = [
         ("orders of parameters", parameters::run, 0),
         ("uniform", uniform::run, options.cases),
         ("Bernoulli", bernoulli::run, options.cases),
@@ -48,6 +50,7 @@ pub fn run(options: &Compare) -> Checked {
         ("searches at the limits", limits::run, 0),
         ("refusals of prove", prover_refusals::run, options.cases / 100),
         ("refusals of verify", verifier_refusals::run, options.cases / 100),
+        ("tickets", tickets::run, options.cases / 50),
     ];
     let (mut counts, mut parts) = (Vec::new(), String::new());
     for (stream, (name, kind, cases)) in (0..).zip(kinds) {

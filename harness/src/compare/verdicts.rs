@@ -2,7 +2,7 @@
 
 use super::blocks::Block;
 use super::searches::Outcome;
-use super::{rules, shown_list, Checked};
+use super::{rules, shown_list, Answered, Checked};
 use crate::{ffi, ffi::Settings, list::List, original, original::ProofOf, rng::Rng};
 
 /// A proof and the settings that it is held to.
@@ -49,6 +49,13 @@ pub fn claims(rng: &mut Rng, settings: &Settings, list: &List, found: &Outcome) 
 
 /// One claim with a lawful list: both verdicts, and that the list lent is as it was.
 pub fn check(block: &mut Block, claim: &Claim) -> Checked {
+    let verdict = verdict(claim)?;
+    block.tally.count("verify", verdict);
+    Ok(())
+}
+
+/// The verdict of both.
+pub fn verdict(claim: &Claim) -> Answered {
     let Claim { settings, retry_counter, search_counter, list } = claim;
     let written = list.written();
     let lent = written.clone();
@@ -57,8 +64,7 @@ pub fn check(block: &mut Block, claim: &Claim) -> Checked {
     if ours != theirs || lent != written {
         return Err(format!("{}  ours: {ours}\n  the Rust: {theirs}\n  the list is {}\n", shown(claim), as_it_was(lent == written)));
     }
-    block.tally.count("verify", ours);
-    Ok(())
+    Ok(ours)
 }
 
 pub fn as_it_was(is_so: bool) -> &'static str {

@@ -1,6 +1,7 @@
 //! What `alba_verify` refuses before it looks at the proof, by the order of the specification's table; the rest goes to the Rust.
 
 use super::blocks::{self, Block};
+use super::searches::Outcome;
 use super::verdicts::{self, Claim};
 use super::{faults, rules, searches, Checked, Run};
 use crate::{
@@ -43,6 +44,12 @@ pub fn check_with_faults(block: &mut Block, proof: &Claim) -> Checked {
 
 /// A proof that the Rust found, so that a refusal comes from the fault alone.
 pub fn any_proof(rng: &mut Rng) -> Result<Claim, String> {
+    let (settings, list, found) = any_search(rng)?;
+    Ok(Claim::of(&settings, &list, &found))
+}
+
+/// A search in which the Rust finds a proof before the last try.
+pub fn any_search(rng: &mut Rng) -> Result<(Settings, List, Outcome), String> {
     loop {
         let settings = Settings {
             set_size: 1 + rng.below(9),
@@ -55,7 +62,7 @@ pub fn any_proof(rng: &mut Rng) -> Result<Claim, String> {
         let list = searches::any_list(rng, settings.set_size as usize);
         let found = searches::due(&settings, &list)?;
         if found.number == 0 && found.retry_counter < settings.max_retries {
-            return Ok(Claim::of(&settings, &list, &found));
+            return Ok((settings, list, found));
         }
     }
 }

@@ -14,7 +14,7 @@ use std::thread;
 use std::time::{Duration, Instant};
 
 /// The exported calls, as the tallies name them.
-const CALLS: [&str; 7] = ["uniform", "Bernoulli", "hash", "small case", "distinctness", "prove", "verify"];
+const CALLS: [&str; 9] = ["uniform", "Bernoulli", "hash", "small case", "distinctness", "prove", "verify", "write ticket", "read ticket"];
 /// How often a line says how far it is.
 const EVERY: Duration = Duration::from_secs(10);
 
@@ -106,7 +106,7 @@ fn so_far(tally: &Tally, started: Instant) -> String {
 
 /// A row for each answer's number, a column for each call.
 fn table(tally: &Tally) -> String {
-    let row = |head: &str, cells: [String; 7]| format!("{head:>6}{}\n", cells.map(|cell| format!(" {cell:>12}")).concat());
+    let row = |head: &str, cells: [String; CALLS.len()]| format!("{head:>6}{}\n", cells.map(|cell| format!(" {cell:>12}")).concat());
     let mut text = row("answer", CALLS.map(str::to_string));
     for answer in tally.answers() {
         text += &row(&answer.to_string(), CALLS.map(|call| tally.times(call, answer).to_string()));

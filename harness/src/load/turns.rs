@@ -4,16 +4,16 @@ use super::draws::{self, up_to};
 use crate::compare::blocks::Block;
 use crate::compare::rules::{BYTES, ELEMENTS, MOST};
 use crate::compare::{
-    bernoulli, distinct, faults, hash, prover_refusals, refusals, searches, small_case, uniform, verdicts, verifier_refusals,
+    bernoulli, distinct, faults, hash, prover_refusals, refusals, searches, small_case, tickets, uniform, verdicts, verifier_refusals,
 };
 use crate::compare::{Answered, Checked};
-use crate::{ffi, ffi::Settings, rng::Rng};
+use crate::{ffi, ffi::Settings, rng::Rng, ticket::Proof};
 use std::sync::{Mutex, PoisonError};
 
 type Turn = fn(&mut Block) -> Checked;
 
 /// Each with its name and how often it comes in its turn: so often that most turns take some hundredths or tenths of a second.
-const TURNS: [(&str, u64, Turn); 8] = [
+const TURNS: [(&str, u64, Turn); 9] = [
     ("samplers", 20_000, samplers),
     ("hash", 4000, hashes),
     ("small case", 10_000, small_cases),
@@ -22,6 +22,7 @@ const TURNS: [(&str, u64, Turn); 8] = [
     ("bad input to prove", 8, bad_to_prove),
     ("random proofs", 32, random_proof),
     ("bad input to verify", 8, bad_to_verify),
+    ("tickets", 2, tickets),
 ];
 /// Once in so many turns the fullest lists come instead: they take seconds.
 const FULL_EACH: u64 = 1024;
@@ -152,6 +153,18 @@ fn bad_to_verify(block: &mut Block) -> Checked {
     Ok(())
 }
 
+/// A list of any size there and back, its ticket changed, and the list with faults; the same with R, S and a list that is mostly short.
+fn tickets(block: &mut Block) -> Checked {
+    let len = up_to(&mut block.rng, ELEMENTS as u64);
+    let list = draws::any_list(&mut block.rng, len as usize);
+    let proof = Proof { list, ..tickets::any_proof(&mut block.rng) };
+    tickets::of_proof(block, &proof)?;
+    (0..64).try_for_each(|_| {
+        let proof = tickets::any_proof(&mut block.rng);
+        tickets::of_proof(block, &proof)
+    })
+}
+
 /// One at a time: each holds some hundred megabytes.
 static FULL: Mutex<()> = Mutex::new(());
 
@@ -162,6 +175,7 @@ fn full(block: &mut Block) -> Checked {
     full_strings(block)?;
     let list = searches::list_of(&mut block.rng, ELEMENTS, BYTES, BYTES);
     note(block, "distinctness", distinct::check(&list))?;
+    tickets::there_and_back(block, &Proof { retry: 1, search: 2, list: list.clone() })?;
     let settings = Settings { set_size: MOST.set_size, max_retries: 1, dfs_bound: 1000, ..draws::any_settings(&mut block.rng) };
     let given = prover_refusals::enough(settings, list);
     prover_refusals::check(block, &given)?;

@@ -9,7 +9,8 @@ use lib.Dec.{eqb}
 use lib.ListN.{length}
 use Rattle.centralized_telescope.specs.laws.TestLaws.{not-both, both}
 use Rattle.centralized_telescope.specs.Elements.{Element, elementAt}
-use Rattle.centralized_telescope.specs.Distinct.{Distinct, sameBytes, noneSame, noneEqual, distinctExactly}
+use Rattle.centralized_telescope.specs.Lists.{sameBytes}
+use Rattle.centralized_telescope.specs.Distinct.{Distinct, noneSame, noneEqual, distinctExactly}
 
 -- ---- bytes
 

@@ -68,7 +68,7 @@ accepted-again es few s =
 
 -- ---- and means the same elements
 
-index-again : (o : Option ℕ) → indexOf (markOf o) (numberOf o) ≡ o
+pub index-again : (o : Option ℕ) → indexOf (markOf o) (numberOf o) ≡ o
 index-again none = refl
 index-again (some n) = refl
 

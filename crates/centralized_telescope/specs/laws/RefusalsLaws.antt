@@ -15,4 +15,6 @@ refusal-number refusal.WorkspaceShort e = omega arith
 refusal-number refusal.NotEnoughElements e = omega arith
 refusal-number refusal.ProofSize e = omega arith
 refusal-number refusal.Completeness e = omega arith
+refusal-number refusal.DamagedTicket e = omega arith
+refusal-number refusal.NoTicket e = omega arith
 refusal-number refusal.BufferShort e = omega arith

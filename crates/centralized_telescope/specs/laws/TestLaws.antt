@@ -14,6 +14,14 @@ use lib.Dec.{eqb, ltb}
 pub not-both : {b : Bool} → b ≡ true → b ≡ false → ⊥
 not-both t f = false≢true (sym f ∙ t)
 
+pub refuted : (b : Bool) → (b ≡ true → ⊥) → b ≡ false
+refuted true f = absurd (f refl)
+refuted false f = refl
+
+pub confirmed : (b : Bool) → (b ≡ false → ⊥) → b ≡ true
+confirmed true f = refl
+confirmed false f = absurd (f refl)
+
 pub neither : (a : Bool) {b : Bool} → a || b ≡ false → (a ≡ false) × (b ≡ false)
 neither true e = absurd (not-both refl e)
 neither false e = (refl, e)

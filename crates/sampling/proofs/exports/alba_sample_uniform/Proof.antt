@@ -33,8 +33,8 @@ draw-number-requires c κs = search needs
 draw-value-requires : tie.Need-draw-value-requires
 draw-value-requires c κs = search needs
 
-write-requires : tie.Need-write-requires
-write-requires c κs = search needs
+write-number-requires : tie.Need-write-number-requires
+write-number-requires c κs = search needs
 
 same-length : tie.Need-same-length
 same-length c = search needs
@@ -57,7 +57,7 @@ returns-4 c =
     let t = v .before in
     let k = t .before in
     let a = k .before .before .before .before .before .before .before .before .args in
-    value-written (k .draw-number .result) (v .draw-value .result) (now (a .out)) (w .write .last .1 .0) (t .if4 .taken) (search needs) (w .write .ensures)
+    value-written (k .draw-number .result) (v .draw-value .result) (now (a .out)) (w .write-number .last .1 .0) (t .if4 .taken) (search needs) (w .write-number .ensures)
     ∙ answer k (v .draw-value .result) (v .draw-value .ensures)
 
 returns-5 : tie.Need-returns-5
@@ -77,7 +77,7 @@ alba-sample-uniform-spec =
     sample-uniform-requires
     draw-number-requires
     draw-value-requires
-    write-requires
+    write-number-requires
     same-length
     returns-4
     returns-5)

@@ -35,8 +35,8 @@ array-read-wide c = search needs
 wide-requires : tie.Need-wide-requires Inv-loop μ-loop
 wide-requires c κs = search needs
 
-sub-write : tie.Need-sub-write Inv-loop μ-loop
-sub-write c = search needs
+sub-write-number : tie.Need-sub-write-number Inv-loop μ-loop
+sub-write-number c = search needs
 
 part-d-start : tie.Need-part-d-start Inv-loop μ-loop
 part-d-start c = search needs
@@ -44,8 +44,8 @@ part-d-start c = search needs
 part-d-end : tie.Need-part-d-end Inv-loop μ-loop
 part-d-end c = search needs
 
-write-requires : tie.Need-write-requires Inv-loop μ-loop
-write-requires c κs = search needs
+write-number-requires : tie.Need-write-number-requires Inv-loop μ-loop
+write-number-requires c κs = search needs
 
 add-n : tie.Need-add-n Inv-loop μ-loop
 add-n c = search needs
@@ -56,7 +56,7 @@ loop-less c = search needs
 loop-again : tie.Need-loop-again Inv-loop μ-loop
 loop-again c =
     let l = c .before .before .before .before .before .loop in
-    let w = c .before .write in
+    let w = c .before .write-number in
     let x = c .before .before .before .wide in
     let k = 4 * l .n + 4 - 4 * l .n in
     let four : length (take k (drop (4 * l .n) (l .d))) ≡ 4 = simp (length-take, length-drop) (omega arith) in
@@ -85,10 +85,10 @@ digest-of-spec =
     mul-wide
     array-read-wide
     wide-requires
-    sub-write
+    sub-write-number
     part-d-start
     part-d-end
-    write-requires
+    write-number-requires
     add-n
     loop-less
     loop-again

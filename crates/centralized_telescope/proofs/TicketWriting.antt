@@ -1,0 +1,226 @@
+-- Writing a ticket: an element's head, the bytes that elements take, and one element more behind those that are written.
+use mathlib.Core.Path.{_≡_, refl, sym, ap, _∙_}
+use mathlib.Core.List.{List, [], _∷_, _++_, append-assoc, append-nil}
+use mathlib.Core.Option.{none}
+use Prim.Native.Nat.{ℕ, suc, _+_, _*_, _≤_, _<_}
+use native.Mathlib.Numerals.{add-one}
+use native.Mathlib.Omega.{arith}
+use borrow.Author.Tests.{eq-eqb, ne-eqb}
+use borrow.Rule.Slice.PartMut.{putMid}
+use lib.ListN.{length, take, drop, length-append, take-append-drop}
+use lib.Seq.{take-at, drop-at, take-all, take-suc, drop-append-add, drop-drop}
+use Rattle.sampling.specs.BigEndian.{bytesOf}
+use Rattle.sampling.specs.laws.BigEndianLaws.{length-bytesOf}
+use Rattle.centralized_telescope.specs.Elements.{Element, elementAt, elements, indexOf, markOf, numberOf, listCheck}
+use Rattle.centralized_telescope.specs.Lists.{over}
+use Rattle.centralized_telescope.specs.Tickets.{headBytes, elementBytes, elementsBytes, content}
+use Rattle.centralized_telescope.specs.inner.ListReading.{dataAt, indexAt}
+use Rattle.centralized_telescope.specs.laws.ElementsLaws.{data-there, index-there, length-elements, data-short}
+use Rattle.centralized_telescope.specs.laws.ListsLaws.{take-over}
+use Rattle.centralized_telescope.specs.laws.ProofListLaws.{index-again}
+use Rattle.centralized_telescope.specs.laws.TicketsLaws.{head-length}
+use Rattle.centralized_telescope.proofs.ProofWriting.{over-append}
+
+-- ---- an element's head in an array
+
+pub head-plain : (mark v size : ℕ) (r z : List ℕ) → (mark ≡ 1 → ⊥) → r ≡ bytesOf 4 size
+    → (5 ≤ suc (length (r ++ z))) × (take 5 (0 ∷ (r ++ z)) ≡ headBytes (indexOf mark v) size)
+head-plain mark v size r z k e =
+    rw (ne-eqb mark 1 k, e)
+    (omega (arith, length-append (bytesOf 4 size) z, length-bytesOf 4 size), ap (λ (l : List ℕ). 0 ∷ l) (take-at (bytesOf 4 size) z 4 (length-bytesOf 4 size)))
+
+-- behind the index, the four bytes that are left of the array
+pub head-indexed : (mark v size : ℕ) (r q z p : List ℕ) → mark ≡ 1 → length z ≡ 4 → r ≡ bytesOf 8 v → q ≡ bytesOf (length (take 4 (drop 8 (r ++ z)))) size
+    → (13 ≤ suc (length (take 8 (r ++ z) ++ (q ++ p)))) × (take 13 (1 ∷ (take 8 (r ++ z) ++ (q ++ p))) ≡ headBytes (indexOf mark v) size)
+head-indexed mark v size r q z p k n e f =
+    let i = length-bytesOf 8 v in
+    let l = length-bytesOf 4 size in
+    let four : length (take 4 (drop 8 (r ++ z))) ≡ 4 = rw (e, drop-at (bytesOf 8 v) z 8 i, take-all 4 z (omega arith)) n in
+    rw (eq-eqb mark 1 k, e, f ∙ ap (λ (j : ℕ). bytesOf j size) four, take-at (bytesOf 8 v) z 8 i) (
+      omega (arith, length-append (bytesOf 8 v) (bytesOf 4 size ++ p), length-append (bytesOf 4 size) p, i, l),
+      ap (λ (l : List ℕ). 1 ∷ l)
+          (rw (← append-assoc (bytesOf 8 v) (bytesOf 4 size) p)
+          (take-at (bytesOf 8 v ++ bytesOf 4 size) p 12 (omega (arith, length-append (bytesOf 8 v) (bytesOf 4 size), i, l)))),
+    )
+
+-- ---- the bytes that elements take
+
+pub length-element : (e : Element) → length (elementBytes e) ≡ 5 + 8 * markOf (e .index) + length (e .bytes)
+unfolding elementBytes
+length-element e =
+    omega (arith, length-append (headBytes (e .index) (length (e .bytes))) (e .bytes), head-length (e .index) (length (e .bytes)))
+
+elements-append : (es fs : List Element) → elementsBytes (es ++ fs) ≡ elementsBytes es ++ elementsBytes fs
+unfolding elementsBytes
+elements-append [] fs = refl
+elements-append (e ∷ es) fs = rw (elements-append es fs, append-assoc)
+
+pub no-bytes : elementsBytes [] ≡ []
+unfolding elementsBytes
+no-bytes = refl
+
+one-element : (e : Element) → elementsBytes (e ∷ []) ≡ elementBytes e
+unfolding elementsBytes
+one-element e = append-nil (elementBytes e)
+
+module _ (es : List Element) (i : ℕ) (h : i < length es) where
+  pub bytes-more : elementsBytes (take (i + 1) es) ≡ elementsBytes (take i es) ++ elementBytes (elementAt es i)
+  unfolding elementAt
+  bytes-more = rw (add-one, take-suc es i (record { bytes = []; index = none }) h, elements-append, one-element)
+
+  -- those of one element more are within those of all
+  pub bytes-within : length (elementsBytes (take i es)) + length (elementBytes (elementAt es i)) ≤ length (elementsBytes es)
+  bytes-within =
+      let f = take (i + 1) es in
+      let b = drop (i + 1) es in
+      omega (
+        arith,
+        ap (λ (l : List Element). length (elementsBytes l)) (take-append-drop (i + 1) es),
+        ap length (elements-append f b),
+        length-append (elementsBytes f) (elementsBytes b),
+        ap length bytes-more,
+        length-append (elementsBytes (take i es)) (elementBytes (elementAt es i)),
+      )
+
+-- ---- bytes behind those that are written
+
+-- a copy behind w
+pub put : (w y lent : List ℕ) (used : ℕ) (out out′ : List ℕ) → used ≡ length w → out ≡ over w lent
+    → out′ ≡ take used out ++ (y ++ drop (used + length y) out) → out′ ≡ over (w ++ y) lent
+put w y lent used out out′ U E C = C ∙ rw (E, U) (over-append w y lent)
+
+-- what stands over a front of itself
+over-over : (w y lent : List ℕ) → over (w ++ y) (over w lent) ≡ over (w ++ y) lent
+over-over w y lent =
+    ap (λ (l : List ℕ). (w ++ y) ++ l)
+    (rw (length-append w y) (drop-append-add w (drop (length w) lent) (length y) ∙ drop-drop (length y) (length w) lent))
+
+-- ---- one element of an accepted list, as the code reads it
+
+module _ (d n m x : List ℕ) (A : listCheck d n m x ≡ 0) (i : ℕ) (h : i < length n) where
+  abbrev all : List Element
+  all = elements d n m x
+
+  in-all : i < length all
+  in-all = omega (arith, length-elements d n m x A)
+
+  module _ (own : List ℕ) (O : own ≡ dataAt d n i) where
+    own-there : elementAt all i .bytes ≡ own
+    own-there = data-there d n m x A i h ∙ sym O
+
+    pub own-small : length own ≤ 4096
+    own-small = rw O (data-short d n m x A i h)
+
+    module _ (mark : ℕ) (K : mark ≡ markOf (indexAt m x i)) where
+      pub size-there : length (elementBytes (elementAt all i)) ≡ 5 + 8 * mark + length own
+      size-there = length-element (elementAt all i) ∙ rw (index-there d n m x A i h, own-there, K)
+
+      pub size-more : (size : ℕ) → size ≡ length (elementsBytes (take i all))
+          → size + (5 + 8 * mark + length own) ≡ length (elementsBytes (take (i + 1) all))
+      size-more size S =
+          omega (arith, ap length (bytes-more all i in-all), length-append (elementsBytes (take i all)) (elementBytes (elementAt all i)), size-there)
+
+      bytes-there : (number : ℕ) → number ≡ numberOf (indexAt m x i) → elementBytes (elementAt all i) ≡ headBytes (indexOf mark number) (length own) ++ own
+      unfolding elementBytes
+      bytes-there number N = rw (index-there d n m x A i h, own-there, K, N, index-again (indexAt m x i))
+
+      -- head and data behind the elements before, which stand behind w
+      module _ (number : ℕ) (N : number ≡ numberOf (indexAt m x i)) (head : List ℕ) (H : head ≡ headBytes (indexOf mark number) (length own))
+          (len : ℕ) (E : length head ≡ len) (w : List ℕ) (used : ℕ) (U : used ≡ length (w ++ elementsBytes (take i all))) where
+        abbrev before : List ℕ
+        before = w ++ elementsBytes (take i all)
+
+        behind : (before ++ head) ++ own ≡ w ++ elementsBytes (take (i + 1) all)
+        behind = rw (append-assoc before head own, H, ← bytes-there number N, bytes-more all i in-all, append-assoc w (elementsBytes (take i all)))
+
+        with-head : used + len ≡ length (before ++ head)
+        with-head = omega (arith, length-append before head)
+
+        pub used-more : used + len + length own ≡ length (w ++ elementsBytes (take (i + 1) all))
+        used-more = omega (arith, with-head, length-append (before ++ head) own, ap length behind)
+
+        pub used-within : used + len + length own ≤ length w + length (elementsBytes all)
+        used-within =
+            omega (
+              arith,
+              used-more,
+              ap length (bytes-more all i in-all),
+              length-append (elementsBytes (take i all)) (elementBytes (elementAt all i)),
+              length-append w (elementsBytes (take (i + 1) all)),
+              bytes-within all i in-all,
+            )
+
+        pub element-put : (lent out out₁ out₂ : List ℕ) → out ≡ over before lent
+            → out₁ ≡ take used out ++ (head ++ drop (used + length head) out)
+            → out₂ ≡ take (used + len) out₁ ++ (own ++ drop (used + len + length own) out₁)
+            → out₂ ≡ over (w ++ elementsBytes (take (i + 1) all)) lent
+        element-put lent out out₁ out₂ B C₁ C₂ =
+            put (before ++ head) own lent (used + len) out₁ out₂ with-head (put before head lent used out out₁ U B C₁) C₂ ∙ ap (λ (l : List ℕ). over l lent) behind
+
+-- ---- what stands before the elements, in an array
+
+mid-at : (xs ys zs w : List ℕ) (a k : ℕ) → length xs ≡ a → length ys ≡ k → putMid a k (xs ++ (ys ++ zs)) w ≡ xs ++ (w ++ zs)
+mid-at xs ys zs w a k E F = rw (take-at xs (ys ++ zs) a E, drop-at xs (ys ++ zs) a E, drop-at ys zs k F)
+
+mid-length : (xs ys zs : List ℕ) (a k : ℕ) → length xs ≡ a → length ys ≡ k → length (take k (drop a (xs ++ (ys ++ zs)))) ≡ k
+mid-length xs ys zs a k E F = rw (drop-at xs (ys ++ zs) a E, take-at ys zs k F) F
+
+abbrev pub four : List ℕ
+four = 0 ∷ 0 ∷ 0 ∷ 0 ∷ []
+
+abbrev pub eight : List ℕ
+eight = 0 ∷ 0 ∷ 0 ∷ 0 ∷ four
+
+-- the array with R in its first eight bytes
+abbrev pub with-retry : List ℕ → List ℕ
+with-retry r = r ++ (0 ∷ 0 ∷ 0 ∷ 0 ∷ eight)
+
+module _ (R S n : ℕ) (r s : List ℕ) (E : r ≡ bytesOf 8 R) (F : s ≡ bytesOf (length (take 8 (drop 8 (with-retry r)))) S) where
+  search-is : s ≡ bytesOf 8 S
+  search-is = F ∙ ap (λ (k : ℕ). bytesOf k S) (mid-length r eight four 8 8 (ap length E ∙ length-bytesOf 8 R) refl)
+
+  -- with both counters
+  both-in : putMid 8 8 (with-retry r) s ≡ (bytesOf 8 R ++ bytesOf 8 S) ++ four
+  both-in =
+      mid-at r eight four s 8 8 (ap length E ∙ length-bytesOf 8 R) refl
+      ∙ rw (E, search-is, append-assoc (bytesOf 8 R) (bytesOf 8 S) four)
+
+  sixteen : length (bytesOf 8 R ++ bytesOf 8 S) ≡ 16
+  sixteen = omega (arith, length-append (bytesOf 8 R) (bytesOf 8 S), length-bytesOf 8 R, length-bytesOf 8 S)
+
+  pub both-length : length (putMid 8 8 (with-retry r) s) ≡ 20
+  both-length = rw both-in (omega (arith, length-append (bytesOf 8 R ++ bytesOf 8 S) four, sixteen))
+
+  pub head-made : (q : List ℕ) → q ≡ bytesOf (length (take 4 (drop 16 (putMid 8 8 (with-retry r) s)))) n
+      → putMid 16 4 (putMid 8 8 (with-retry r) s) q ≡ bytesOf 8 R ++ (bytesOf 8 S ++ bytesOf 4 n)
+  head-made q G =
+      let last : length (take 4 (drop 16 (putMid 8 8 (with-retry r) s))) ≡ 4
+      = rw both-in (mid-length (bytesOf 8 R ++ bytesOf 8 S) four [] 16 4 sixteen refl) in
+      ap (λ (l : List ℕ). putMid 16 4 l q) both-in
+      ∙ mid-at (bytesOf 8 R ++ bytesOf 8 S) four [] q 16 4 sixteen refl
+      ∙ rw (G, last, append-nil (bytesOf 4 n), append-assoc (bytesOf 8 R) (bytesOf 8 S) (bytesOf 4 n))
+
+-- ---- the whole content over a buffer
+
+abbrev pub headOf : ℕ → ℕ → ℕ → List ℕ
+headOf R S n = bytesOf 8 R ++ (bytesOf 8 S ++ bytesOf 4 n)
+
+pub length-headOf : (R S n : ℕ) → length (headOf R S n) ≡ 20
+length-headOf R S n =
+    omega (arith, length-append (bytesOf 8 R) (bytesOf 8 S ++ bytesOf 4 n), length-append (bytesOf 8 S) (bytesOf 4 n), length-bytesOf 8 R, length-bytesOf 8 S, length-bytesOf 4 n)
+
+module _ (R S n : ℕ) (es : List Element) (N : length es ≡ n) where
+  content-is : content R S es ≡ headOf R S n ++ elementsBytes es
+  unfolding content
+  content-is = rw (N, append-assoc (bytesOf 8 R) (bytesOf 8 S ++ bytesOf 4 n), append-assoc (bytesOf 8 S) (bytesOf 4 n))
+
+  pub length-content : length (content R S es) ≡ 20 + length (elementsBytes es)
+  length-content = ap length content-is ∙ length-append (headOf R S n) (elementsBytes es) ∙ rw (length-headOf R S n)
+
+  -- the head, then the elements behind it
+  pub content-put : (lent head out out′ : List ℕ) → head ≡ headOf R S n → out ≡ take 0 lent ++ (head ++ drop (0 + length head) lent)
+      → out′ ≡ over (take 20 out ++ elementsBytes es) out → out′ ≡ over (content R S es) lent
+  content-put lent head out out′ H C E =
+      let o : out ≡ over head lent = put [] head lent 0 lent out refl refl C in
+      let l : length head ≡ 20 = ap length H ∙ length-headOf R S n in
+      E ∙ rw (o, take-over 20 head lent l, over-over head (elementsBytes es) lent, H, ← content-is)

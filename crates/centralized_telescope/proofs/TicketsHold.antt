@@ -1,0 +1,317 @@
+-- The four claims on tickets.
+use mathlib.Core.Path.{_≡_, refl, sym, ap, _∙_}
+use mathlib.Core.Bool.{Bool, true, false, cond}
+use mathlib.Core.List.{List, [], _∷_, _++_}
+use mathlib.Core.Option.{Option, none, some}
+use Prim.Native.Nat.{ℕ, zero, suc, _-_, _*_, _/_, _^_, _≤_, _<_}
+use native.Mathlib.Omega.{arith}
+use borrow.Author.Tests.{eq-eqb, ltb-false, le-ltb}
+use lib.Dec.{ltb}
+use lib.ListN.{length, drop, getD, length-map, length-take}
+use Rattle.centralized_telescope.specs.laws.TestLaws.{not-both, refuted, confirmed, neither}
+use Rattle.centralized_telescope.specs.laws.ListsLaws.{take-over}
+use Rattle.centralized_telescope.specs.laws.ElementsLaws.{accepted, length-elements, few-elements}
+use Rattle.centralized_telescope.specs.laws.ProofListLaws.{Short, length-ends, accepted-again, elements-again}
+use Rattle.centralized_telescope.specs.laws.BytesLaws.{Bytes, each-bytes}
+use Rattle.centralized_telescope.specs.laws.BlocksLaws.{length-blocks, blocks-undamaged}
+use Rattle.centralized_telescope.specs.laws.TicketsReadLaws.{none-over, number-small, ticket-reads, is-ticket, ticket-said, ticket-is}
+use Rattle.centralized_telescope.specs.declared.params.Params.{Params}
+use Rattle.centralized_telescope.specs.Lists.{Each, someOf, firstNumber}
+use Rattle.centralized_telescope.specs.Elements.{Element, markOf, numberOf, elementsFrom, elements, dataLong, listCheck}
+use Rattle.centralized_telescope.specs.Verifier.{verdict}
+use Rattle.centralized_telescope.specs.ProofList.{joined, endsFrom, marksOf, indexesOf, buffersShort}
+use Rattle.centralized_telescope.specs.Blocks.{blockCount, blocks, bodiesOf, damaged}
+use Rattle.centralized_telescope.specs.Tickets.{content, ticket, ElementFits, ProofFits, IsTicket, retryIn, searchIn, proofIn, isTicket, TicketWritten, ticketWriteRefusal, ticketWritten, TicketRead, readOut, ticketReadRefusal, ticketRead}
+use Rattle.centralized_telescope.specs.TicketClaims.{blocksOf, ofRead, HasRoom, carried, CanCarry, ReadBack, readsBack, WrittenBack, writtenAgain, writesBack, judgedAgain, judgedAlike, TicketOrNot, OneProof, ticketsExactly}
+
+-- ---- the elements of an accepted list whose indexes are of 64 bits
+
+fit-from : (from : ℕ) (d n m x : List ℕ) → Each (λ (v : ℕ). v < 2 ^ 64) x → dataLong from n ≡ false → Each ElementFits (elementsFrom from d n m x)
+unfolding Each dataLong elementsFrom
+fit-from from d [] m x X l = tt
+fit-from from d (k ∷ n) [] x X l = tt
+fit-from from d (k ∷ n) (j ∷ m) [] X l = tt
+fit-from from d (k ∷ n) (j ∷ m) (v ∷ x) X l =
+    let h = neither (ltb 4096 (k - from)) l in (
+      (omega (arith, length-take (k - from) (drop from d), ltb-false 4096 (k - from) (h .0)), number-small j v (2 ^ 64) (X .0)),
+      fit-from k d n m x (X .1) (h .1),
+    )
+
+none-long-short : (es : List Element) → someOf (λ (e : Element). ltb 4096 (length (e .bytes))) es ≡ false → Each Short es
+unfolding Each someOf
+none-long-short [] h = tt
+none-long-short (e ∷ es) h =
+    let k = neither (ltb 4096 (length (e .bytes))) h in
+    (ltb-false 4096 (length (e .bytes)) (k .0), none-long-short es (k .1))
+
+-- ---- what the writer wrote
+
+module _ (R S : ℕ) (d n m x out : List ℕ) where
+  abbrev w : TicketWritten
+  w = ticketWritten R S d n m x out
+
+  -- an accepted list, and room
+  is-written : (t : List ℕ) → t ≡ ticket R S (elements d n m x) → listCheck d n m x ≡ 0 → length t ≤ length out → WrittenBack t out w
+  unfolding ticketWritten ticketWriteRefusal firstNumber ticket
+  is-written t e A room =
+      let c : List ℕ = content R S (elements d n m x) in
+      let l : length t ≡ 512 * blockCount (length c) = rw e (length-blocks c) in
+      let k : ticketWriteRefusal R S d n m x out ≡ 0 = rw (A, le-ltb (length out) (512 * blockCount (length c)) (omega arith)) in
+      rw (eq-eqb (ticketWriteRefusal R S d n m x out) 0 k) record { number = refl; count = omega arith; blocks = rw e }
+
+  blocks-written : listCheck d n m x ≡ 0 → length (ticket R S (elements d n m x)) ≤ length out → blocksOf w ≡ ticket R S (elements d n m x)
+  unfolding ticket
+  blocks-written A room =
+      let t : List ℕ = ticket R S (elements d n m x) in
+      let W = is-written t refl A room in
+      rw (W .count, W .blocks) (take-over (512 * (length t / 512)) t out (omega (arith, length-blocks (content R S (elements d n m x)))))
+
+-- ---- what the reader read
+
+module _ (R S : ℕ) (es : List Element) (d n m x : List ℕ) where
+  parts : {A : Type 0} (f : List ℕ → List ℕ → List ℕ → List ℕ → A)
+      → ofRead f (readOut R S es d n m x) ≡ f (joined es) (endsFrom 0 es) (marksOf es) (indexesOf es)
+  unfolding readOut
+  parts f =
+      rw (
+        take-over (length (joined es)) (joined es) d refl,
+        take-over (length es) (endsFrom 0 es) n (length-ends 0 es),
+        take-over (length es) (marksOf es) m (length-map es (λ (e : Element). markOf (e .index))),
+        take-over (length es) (indexesOf es) x (length-map es (λ (e : Element). numberOf (e .index))),
+      )
+
+  -- what was read, written out and judged
+  again : (out : List ℕ) → writtenAgain (readOut R S es d n m x) out ≡ ticketWritten R S (joined es) (endsFrom 0 es) (marksOf es) (indexesOf es) out
+  unfolding readOut
+  again out = ap (λ (f : List ℕ → TicketWritten). f out) (parts (ticketWritten R S))
+
+  verdict-on : (p : Params) → judgedAgain p (readOut R S es d n m x) ≡ verdict p R S (joined es) (endsFrom 0 es) (marksOf es) (indexesOf es)
+  unfolding readOut
+  verdict-on p = parts (verdict p R S)
+
+zero-index : (es : List Element) (y z : List ℕ) (i : ℕ) → i < length es → getD (marksOf es ++ y) i 0 ≡ 0 → getD (indexesOf es ++ z) i 0 ≡ 0
+zero-index [] y z i h e = absurd (omega arith)
+zero-index (k ∷ es) y z zero h e = go (k .index) e
+  where
+    go : (o : Option ℕ) → markOf o ≡ 0 → numberOf o ≡ 0
+    go none e = refl
+    go (some v) e = absurd (omega arith)
+zero-index (k ∷ es) y z (suc i) h e = zero-index es y z i (omega arith) e
+
+-- the reader's number by the three tests: damaged, a ticket, a buffer too short
+abbrev numberBy : Bool → Bool → Bool → ℕ
+numberBy p q s = cond p 40 (cond q (cond s 42 0) 41)
+
+module _ (t d n m x : List ℕ) where
+  abbrev r : TicketRead
+  r = ticketRead t d n m x
+
+  abbrev b : List ℕ
+  b = bodiesOf t
+
+  abbrev short : Bool
+  short = buffersShort (length (proofIn b)) (length (joined (proofIn b))) (length d) (length n) (length m) (length x)
+
+  damage-met : damaged t ≡ true → r .number ≡ 40
+  unfolding ticketRead ticketReadRefusal firstNumber
+  damage-met D = rw D
+
+  refused : damaged t ≡ false → isTicket t ≡ false → r .number ≡ 41
+  unfolding ticketRead ticketReadRefusal firstNumber
+  refused D I = rw (D, I)
+
+  no-room : damaged t ≡ false → isTicket t ≡ true → short ≡ true → r .number ≡ 42
+  unfolding ticketRead ticketReadRefusal firstNumber
+  no-room D I s = rw (D, I, s)
+
+  read-all : damaged t ≡ false → isTicket t ≡ true → short ≡ false → r ≡ readOut (retryIn b) (searchIn b) (proofIn b) d n m x
+  unfolding ticketRead ticketReadRefusal firstNumber
+  read-all D I s = rw (D, I, s)
+
+  -- so the number tells the three tests' answers
+  number-is : r .number ≡ numberBy (damaged t) (isTicket t) short
+  unfolding readOut
+  number-is = go (damaged t) (isTicket t) short refl refl refl
+    where
+      go : (p q s : Bool) → damaged t ≡ p → isTicket t ≡ q → short ≡ s → r .number ≡ numberBy p q s
+      go true q s D I B = damage-met D
+      go false false s D I B = refused D I
+      go false true true D I B = no-room D I B
+      go false true false D I B = rw (read-all D I B)
+
+  forty : r .number ≡ 40 → damaged t ≡ true
+  forty e = go (damaged t) (isTicket t) short (sym number-is ∙ e)
+    where
+      go : (p q s : Bool) → numberBy p q s ≡ 40 → p ≡ true
+      go true q s h = refl
+      go false false s h = absurd (omega arith)
+      go false true true h = absurd (omega arith)
+      go false true false h = absurd (omega arith)
+
+  forty-one : r .number ≡ 41 → (damaged t ≡ false) × (isTicket t ≡ false)
+  forty-one e = go (damaged t) (isTicket t) short (sym number-is ∙ e)
+    where
+      go : (p q s : Bool) → numberBy p q s ≡ 41 → (p ≡ false) × (q ≡ false)
+      go true q s h = absurd (omega arith)
+      go false false s h = (refl, refl)
+      go false true true h = absurd (omega arith)
+      go false true false h = absurd (omega arith)
+
+  forty-two : r .number ≡ 42 → (isTicket t ≡ true) × (short ≡ true)
+  forty-two e = go (damaged t) (isTicket t) short (sym number-is ∙ e)
+    where
+      go : (p q s : Bool) → numberBy p q s ≡ 42 → (q ≡ true) × (s ≡ true)
+      go true q s h = absurd (omega arith)
+      go false false s h = absurd (omega arith)
+      go false true true h = (refl, refl)
+      go false true false h = absurd (omega arith)
+
+  record Accepted : Type 0 where
+    whole : damaged t ≡ false
+    is : isTicket t ≡ true
+    room : short ≡ false
+
+  accepts : r .number ≡ 0 → Accepted
+  accepts e = go (damaged t) (isTicket t) short refl refl refl (sym number-is ∙ e)
+    where
+      go : (p q s : Bool) → damaged t ≡ p → isTicket t ≡ q → short ≡ s → numberBy p q s ≡ 0 → Accepted
+      go true q s D I B h = absurd (omega arith)
+      go false false s D I B h = absurd (omega arith)
+      go false true true D I B h = absurd (omega arith)
+      go false true false D I B h = record { whole = D; is = I; room = B }
+
+-- ---- the claims
+
+module _ (R S : ℕ) (d n m x out d′ n′ m′ x′ : List ℕ) (C : CanCarry R S d n m x out d′ n′ m′ x′) where
+  abbrev es : List Element
+  es = elements d n m x
+
+  reads : ProofFits R S es
+  reads = record {
+    retry = C .retry;
+    search = C .search;
+    few = omega (arith, length-elements d n m x (C .accepted), few-elements d n m x (C .accepted));
+    each = fit-from 0 d n m x (C .index-numbers) (accepted d n m x (C .accepted) .short);
+  }
+
+  ticket-whole : damaged (ticket R S es) ≡ false
+  unfolding ticket
+  ticket-whole = blocks-undamaged (content R S es)
+
+  all-read : carried R S d n m x out d′ n′ m′ x′ ≡ readOut R S es d′ n′ m′ x′
+  all-read =
+      let f = ticket-reads R S es reads in
+      rw (blocks-written R S d n m x out (C .accepted) (C .long))
+      (read-all (ticket R S es) d′ n′ m′ x′ ticket-whole (is-ticket R S es reads) (rw (f .proof) (C .room)) ∙ rw (f .retry, f .search, f .proof))
+
+  listed-again : listCheck (joined es) (endsFrom 0 es) (marksOf es) (indexesOf es) ≡ 0
+  listed-again = accepted-again es (reads .few) (none-long-short es (none-over es (reads .each)))
+
+  read-back : ReadBack R S es (carried R S d n m x out d′ n′ m′ x′)
+  unfolding readOut
+  read-back =
+      rw all-read
+      record {
+        number = refl;
+        retry = refl;
+        search = refl;
+        count = refl;
+        same = parts R S es d′ n′ m′ x′ elements ∙ elements-again es;
+        accepted = parts R S es d′ n′ m′ x′ listCheck ∙ listed-again;
+        data-alone = take-over (length (joined es)) (joined es) d′ refl;
+        index-zero = zero-index es (drop (length (marksOf es)) m′) (drop (length (indexesOf es)) x′);
+      }
+
+  alike : (p : Params) → judgedAgain p (carried R S d n m x out d′ n′ m′ x′) ≡ verdict p R S d n m x
+  unfolding verdict
+  alike p = ap (judgedAgain p) all-read ∙ verdict-on R S es d′ n′ m′ x′ p ∙ rw (listed-again, elements-again es, C .accepted)
+
+pub reads-back : readsBack
+reads-back R S d n m x out d′ n′ m′ x′ C = (
+  is-written R S d n m x out (ticket R S (elements d n m x)) refl (C .accepted) (C .long) .number,
+  read-back R S d n m x out d′ n′ m′ x′ C,
+)
+
+pub judged-alike : judgedAlike
+judged-alike p R S d n m x out d′ n′ m′ x′ C = alike R S d n m x out d′ n′ m′ x′ C p
+
+module _ (t d n m x : List ℕ) where
+  abbrev R′ : ℕ
+  R′ = retryIn (bodiesOf t)
+
+  abbrev S′ : ℕ
+  S′ = searchIn (bodiesOf t)
+
+  abbrev es′ : List Element
+  es′ = proofIn (bodiesOf t)
+
+  module _ (N : ticketRead t d n m x .number ≡ 0) where
+    read : ticketRead t d n m x ≡ readOut R′ S′ es′ d n m x
+    read = let a = accepts t d n m x N in read-all t d n m x (a .whole) (a .is) (a .room)
+
+    write-back : (out : List ℕ) → length t ≤ length out → WrittenBack t out (writtenAgain (ticketRead t d n m x) out)
+    write-back out l =
+        let s = ticket-said t (accepts t d n m x N .is) in
+        rw (read, again R′ S′ es′ d n m x out)
+        (is-written R′ S′ (joined es′) (endsFrom 0 es′) (marksOf es′) (indexesOf es′) out t (s .same ∙ ap (ticket R′ S′) (sym (elements-again es′)))
+        (accepted-again es′ (s .few) (none-long-short es′ (s .none-long))) l)
+
+    fits : Bytes t → ProofFits (ticketRead t d n m x .retry) (ticketRead t d n m x .search) (ofRead elements (ticketRead t d n m x))
+    unfolding readOut
+    fits B = rw (read, parts R′ S′ es′ d n m x elements, elements-again es′) (ticket-is t B (accepts t d n m x N .is))
+
+    same : t ≡ ticket (ticketRead t d n m x .retry) (ticketRead t d n m x .search) (ofRead elements (ticketRead t d n m x))
+    unfolding readOut
+    same = rw (read, parts R′ S′ es′ d n m x elements, elements-again es′) (ticket-said t (accepts t d n m x N .is) .same)
+
+  said : IsTicket t → isTicket t ≡ true
+  said k = rw (k .4) (is-ticket (k .0) (k .1) (k .2) (k .3))
+
+  abbrev is-a-ticket : Bytes t → isTicket t ≡ true → IsTicket t
+  is-a-ticket B e = (R′, S′, es′, ticket-is t B e, ticket-said t e .same)
+
+  not-said : Bytes t → (IsTicket t → ⊥) → isTicket t ≡ false
+  not-said B none-is = refuted (isTicket t) (λ e. none-is (is-a-ticket B e))
+
+  whole : IsTicket t → damaged t ≡ false
+  unfolding ticket
+  whole k = rw (k .4) (blocks-undamaged (content (k .0) (k .1) (k .2)))
+
+  proof-found : (k : IsTicket t) → es′ ≡ k .2
+  proof-found k = rw (k .4) (ticket-reads (k .0) (k .1) (k .2) (k .3) .proof)
+
+  read-with-room : (k : IsTicket t) → HasRoom (k .2) d n m x → ticketRead t d n m x .number ≡ 0
+  unfolding readOut
+  read-with-room k room = rw (read-all t d n m x (whole k) (said k) (rw (proof-found k) room))
+
+  too-short : Bytes t → ticketRead t d n m x .number ≡ 42 → (k : IsTicket t) × (HasRoom (k .2) d n m x → ⊥)
+  too-short B e = let f = forty-two t d n m x e in (is-a-ticket B (f .0), λ room. not-both (f .1) room)
+
+  short-refused : (k : IsTicket t) → (HasRoom (k .2) d n m x → ⊥) → ticketRead t d n m x .number ≡ 42
+  short-refused k short = no-room t d n m x (whole k) (said k) (rw (proof-found k) (confirmed _ short))
+
+  ticket-or-not : Each (λ (b : ℕ). b < 256) t → TicketOrNot t d n m x
+  ticket-or-not E =
+      let B = each-bytes t E in
+      record {
+        damage = (forty t d n m x, damage-met t d n m x);
+        no-ticket = (λ e. let f = forty-one t d n m x e in (f .0, λ k. not-both (said k) (f .1)), λ f. refused t d n m x (f .0) (not-said B (f .1)));
+        undamaged = whole;
+        short = (too-short B, λ f. short-refused (f .0) (f .1));
+        reads = read-with-room;
+        fits = λ N. fits N B;
+        same = same;
+      }
+
+pub writes-back : writesBack
+writes-back t d n m x out N l = write-back t d n m x N out l
+
+one-proof : OneProof
+one-proof R S es R′ S′ es′ f g q =
+    let a = ticket-reads R S es f in
+    let b = ticket-reads R′ S′ es′ g in
+    let e = rw q at a in
+    record { retry = sym (e .retry) ∙ b .retry; search = sym (e .search) ∙ b .search; same = sym (e .proof) ∙ b .proof }
+
+pub tickets-exactly : ticketsExactly
+tickets-exactly = (ticket-or-not, one-proof)

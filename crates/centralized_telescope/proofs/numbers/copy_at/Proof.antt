@@ -1,0 +1,27 @@
+-- `copy_at`: a copy over the middle of a buffer.
+use borrow.Author.Needs.{needs}
+use Rattle.centralized_telescope.proofs.ProofWriting.{copied}
+use Rattle.centralized_telescope.proofs.numbers.copy_at.Statement.{statement}
+use Rattle.centralized_telescope.proofs.numbers.copy_at.Tie as tie
+
+sub-copy : tie.Need-sub-copy
+sub-copy c = search needs
+
+part-copy-start : tie.Need-part-copy-start
+part-copy-start c = search needs
+
+part-copy-end : tie.Need-part-copy-end
+part-copy-end c = search needs
+
+copy-requires : tie.Need-copy-requires
+copy-requires c κs = search needs
+
+same-length : tie.Need-same-length
+same-length c = search needs
+
+returns : tie.Need-returns
+returns c = let z = c .before .before .before .before .before .before .args in copied (z .at) (z .part .now) (z .out .now) _ (c .before .before .copy .ensures .1)
+
+pub copy-at-spec : {M : Type 1} → statement M
+copy-at-spec =
+    tie.close (tie.spec sub-copy part-copy-start part-copy-end copy-requires same-length returns)

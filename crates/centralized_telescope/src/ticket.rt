@@ -1,0 +1,435 @@
+// A proof as a ticket: R, S and the elements in the joined bodies of blocks, and back.
+ghost use mathlib.Core.Path.{_≡_};
+ghost use mathlib.Core.Bool.{true, false};
+ghost use mathlib.Core.List.{_++_};
+ghost use Prim.Native.Nat.{_+_, _*_, _/_, _^_, _<_, _≤_};
+ghost use lib.Dec.{ltb};
+ghost use lib.ListN.{length, take, drop};
+ghost use Rattle.sampling.specs.BigEndian.{bigEndian, bytesOf};
+ghost use Rattle.centralized_telescope.specs.Lists.{someOf, over};
+ghost use Rattle.centralized_telescope.specs.Elements.{elements, indexOf, listCheck};
+ghost use Rattle.centralized_telescope.specs.ProofList.{listOver, buffersShort};
+ghost use Rattle.centralized_telescope.specs.Blocks.{bodiesOf, damaged};
+ghost use Rattle.centralized_telescope.specs.Tickets.{headBytes, elementsBytes, content, elementsIn, ticketWritten, ticketWrittenBy, ticketRead, ticketReadBy, elementsPart};
+ghost use Rattle.centralized_telescope.specs.inner.TicketReading.{HeadSays, LayoutSays, FoundSays, allLaidOut, dataSize, fillingRight, listed};
+use crate::blocks::copy_from_bodies;
+use crate::blocks::fill_zeros;
+use crate::blocks::is_damaged;
+use crate::blocks::seal;
+use crate::errors::Refusal;
+use crate::numbers::copy_at;
+use crate::numbers::least;
+use crate::numbers::number;
+use crate::round::RetryCounter;
+use crate::round::SearchCounter;
+use crate::types::ListCheck;
+use crate::types::check_list;
+use crate::types::data_of;
+use crate::types::index_of;
+use sampling::write_number;
+
+// What `write_ticket` answers.
+pub enum TicketBlocks {
+    // with the number of blocks
+    Written(usize),
+    // as the lent list is; or BufferShort
+    Refused(Refusal),
+}
+
+// What `read_ticket` answers.
+pub enum TicketProof {
+    // with R, S, the number of elements and that of data bytes
+    Read(RetryCounter, SearchCounter, usize, usize),
+    // DamagedTicket, NoTicket or BufferShort
+    Refused(Refusal),
+}
+
+// ---- Writing
+
+// What stands before an element's data: the first `len` of the bytes.
+pub struct ElementHead {
+    pub bytes: [u8; 13],
+    pub len: usize,
+}
+
+// The head of an element with `size` data bytes.
+fn element_head(mark: u8, index: u64, size: usize) -> ElementHead
+    requires { ⌜ size ≤ 4096 ⌝ }
+    ensures { λ r. ⌜ (r .len ≤ length (r .bytes)) × (take (r .len) (r .bytes) ≡ headBytes (indexOf mark «index») size) ⌝ }
+{
+    let mut bytes = [0u8; 13];
+    if mark != 1 {
+        write_number(size as u64, &mut bytes[1..5]);
+        return ElementHead {
+            bytes: bytes,
+            len: 5,
+        };
+    }
+    bytes[0] = 1;
+    write_number(index, &mut bytes[1..9]);
+    write_number(size as u64, &mut bytes[9..13]);
+    ElementHead {
+        bytes: bytes,
+        len: 13,
+    }
+}
+
+// How many bytes the elements of an accepted list take.
+fn elements_size(data: &[u8], ends: &[u32], marks: &[u8], indexes: &[u64]) -> usize
+    requires { ⌜ listCheck (now «data») (now ends) (now marks) (now indexes) ≡ 0 ⌝ }
+    ensures { λ r. ⌜ (r ≡ length (elementsBytes (elements (now («data» .entry)) (now (ends .entry)) (now (marks .entry)) (now (indexes .entry))))) × (r ≤ 4109 * length (now (ends .entry))) ⌝ }
+{
+    let mut size: usize = 0;
+    let mut i = 0;
+    while i < ends.len() {
+        let own = data_of(data, ends, i);
+        let index = index_of(marks, indexes, i);
+        size += 5 + 8 * index.mark as usize + own.len();
+        i += 1;
+    }
+    size
+}
+
+// Writes the elements of an accepted list to the place `from` of a buffer that has room for them.
+fn write_elements_bytes(
+    data: &[u8],
+    ends: &[u32],
+    marks: &[u8],
+    indexes: &[u64],
+    from: usize,
+    out: &mut [u8],
+)
+    requires { ⌜ (listCheck (now «data») (now ends) (now marks) (now indexes) ≡ 0)
+        × (from + length (elementsBytes (elements (now «data») (now ends) (now marks) (now indexes))) ≤ length (now out)) ⌝ }
+    ensures { λ _. ⌜ now (out .exit) ≡ over (take from (now (out .entry)) ++ elementsBytes (elements (now («data» .entry)) (now (ends .entry)) (now (marks .entry)) (now (indexes .entry)))) (now (out .entry)) ⌝ }
+{
+    let mut used = from;
+    let mut i = 0;
+    while i < ends.len() {
+        let own = data_of(data, ends, i);
+        let index = index_of(marks, indexes, i);
+        let head = element_head(index.mark, index.number, own.len());
+        let bytes = head.bytes;
+        let len = head.len;
+        copy_at(&bytes[..len], used, out);
+        used += len;
+        copy_at(own, used, out);
+        used += own.len();
+        i += 1;
+    }
+}
+
+// What stands before the elements: R, S and their number.
+fn content_head(retry: RetryCounter, search: SearchCounter, count: usize) -> [u8; 20]
+    ensures { λ r. ⌜ r ≡ bytesOf 8 (retry .0) ++ (bytesOf 8 (search .0) ++ bytesOf 4 count) ⌝ }
+{
+    let mut head = [0u8; 20];
+    write_number(retry.0, &mut head[..8]);
+    write_number(search.0, &mut head[8..16]);
+    write_number(count as u64, &mut head[16..]);
+    head
+}
+
+// Writes R, S, the number of elements and the elements of an accepted list over the first bytes of a buffer that has room for them.
+fn write_content(
+    retry: RetryCounter,
+    search: SearchCounter,
+    data: &[u8],
+    ends: &[u32],
+    marks: &[u8],
+    indexes: &[u64],
+    out: &mut [u8],
+)
+    requires { ⌜ (listCheck (now «data») (now ends) (now marks) (now indexes) ≡ 0)
+        × (length (content (retry .0) (search .0) (elements (now «data») (now ends) (now marks) (now indexes))) ≤ length (now out)) ⌝ }
+    ensures { λ _. ⌜ now (out .exit) ≡ over (content (retry .0) (search .0) (elements (now («data» .entry)) (now (ends .entry)) (now (marks .entry)) (now (indexes .entry)))) (now (out .entry)) ⌝ }
+{
+    let head = content_head(retry, search, ends.len());
+    copy_at(&head, 0, out);
+    write_elements_bytes(data, ends, marks, indexes, 20, out);
+}
+
+// Writes the ticket of R, S and a list of elements over the first bytes of a lent buffer. Data that belongs to no element and an index whose
+// mark is 0 aren't carried. A refusal leaves the buffer as it was.
+pub fn write_ticket(
+    retry_counter: RetryCounter,
+    search_counter: SearchCounter,
+    data: &[u8],
+    ends: &[u32],
+    marks: &[u8],
+    indexes: &[u64],
+    ticket: &mut [u8],
+) -> TicketBlocks
+    ensures { λ r. ⌜ ticketWrittenBy r (now («ticket» .exit))
+        ≡ ticketWritten («retry_counter» .0) («search_counter» .0) (now («data» .entry)) (now (ends .entry)) (now (marks .entry)) (now (indexes .entry)) (now («ticket» .entry)) ⌝ }
+{
+    match check_list(data, ends, marks, indexes) {
+        ListCheck::Accepted => {}
+        ListCheck::Refused(k) => {
+            return TicketBlocks::Refused(k);
+        }
+    }
+    let size = 20 + elements_size(data, ends, marks, indexes);
+    let count = (size + 503) / 504;
+    if ticket.len() < 512 * count {
+        return TicketBlocks::Refused(Refusal::BufferShort);
+    }
+    write_content(
+        retry_counter,
+        search_counter,
+        data,
+        ends,
+        marks,
+        indexes,
+        ticket,
+    );
+    fill_zeros(&mut ticket[size..504 * count]);
+    seal(ticket, count);
+    TicketBlocks::Written(count)
+}
+
+// ---- Reading. A place is one among the joined bodies.
+
+// What a ticket has of an element before its data: how many bytes that takes, and how many data bytes follow.
+pub struct HeadRead {
+    pub mark: u8,
+    pub index: u64,
+    pub len: usize,
+    pub size: usize,
+}
+
+// An element at a place, or bytes that can't be one.
+pub enum Head {
+    Element(HeadRead),
+    Outside,
+}
+
+// The layout of all elements: where they end and how many data bytes they have; or bytes that can't be so many elements.
+pub enum Layout {
+    Elements(usize, usize),
+    Outside,
+}
+
+// What whole blocks with their checks hold: so many elements with so many data bytes in all, or no proof.
+pub enum Found {
+    Elements(usize, usize),
+    NoTicket,
+}
+
+// How many bytes the joined bodies are.
+fn bodies_size(ticket: &[u8]) -> usize
+    ensures { λ r. ⌜ r ≡ 504 * (length (now (ticket .entry)) / 512) ⌝ }
+{
+    504 * (ticket.len() / 512)
+}
+
+// The number that k bytes make from a place on.
+fn field(ticket: &[u8], at: usize, k: usize) -> u64
+    requires { ⌜ (at + k ≤ 504 * (length (now ticket) / 512)) × (k ≤ 8) ⌝ }
+    ensures { λ r. ⌜ (r ≡ bigEndian k (drop at (bodiesOf (now (ticket .entry))))) × (r < 256 ^ k) ⌝ }
+{
+    let mut bytes = [0u8; 8];
+    copy_from_bodies(ticket, at, k, 0, &mut bytes);
+    number(&bytes, 0, k)
+}
+
+// The head of the element at a place, if one is there that ends within the bodies and has no more data than an element may have.
+fn head_at(ticket: &[u8], at: usize) -> Head
+    requires { ⌜ at ≤ 504 * (length (now ticket) / 512) ⌝ }
+    ensures { λ r. ⌜ HeadSays r (drop at (bodiesOf (now (ticket .entry)))) ⌝ }
+{
+    let left = bodies_size(ticket) - at;
+    if left < 5 {
+        return Head::Outside;
+    }
+    // at once, as far as the bodies go: a copy for each number takes longer
+    let mut bytes = [0u8; 13];
+    copy_from_bodies(ticket, at, least(left, 13), 0, &mut bytes);
+    let mark = bytes[0];
+    if 1 < mark {
+        return Head::Outside;
+    }
+    let len = 5 + 8 * mark as usize;
+    if left < len {
+        return Head::Outside;
+    }
+    let index = number(&bytes, 1, len - 5);
+    let size = number(&bytes, len - 4, 4) as usize;
+    if 4096 < size {
+        return Head::Outside;
+    }
+    if left < len + size {
+        return Head::Outside;
+    }
+    Head::Element(HeadRead {
+        mark: mark,
+        index: index,
+        len: len,
+        size: size,
+    })
+}
+
+// The layout of so many elements from the place 20 on.
+fn layout_of(ticket: &[u8], count: usize) -> Layout
+    requires { ⌜ (20 ≤ 504 * (length (now ticket) / 512)) × (count ≤ 65536) ⌝ }
+    ensures { λ r. ⌜ LayoutSays r count (bodiesOf (now (ticket .entry))) ⌝ }
+{
+    let mut at: usize = 20;
+    let mut used: usize = 0;
+    let mut i = 0;
+    while i < count {
+        match head_at(ticket, at) {
+            Head::Outside => {
+                return Layout::Outside;
+            }
+            Head::Element(h) => {
+                at += h.len + h.size;
+                used += h.size;
+            }
+        }
+        i += 1;
+    }
+    Layout::Elements(at, used)
+}
+
+// Whether a byte isn't 0.
+fn some_over_zero(bytes: &[u8]) -> bool
+    ensures { λ r. ⌜ r ≡ someOf (ltb 0) (now (bytes .entry)) ⌝ }
+{
+    let mut i = 0;
+    while i < bytes.len() {
+        if 0 < bytes[i] {
+            return true;
+        }
+        i += 1;
+    }
+    false
+}
+
+// Whether all that follows the place `end` is zeros, and less than a body.
+fn is_filling_right(ticket: &[u8], end: usize) -> bool
+    requires { ⌜ end ≤ 504 * (length (now ticket) / 512) ⌝ }
+    ensures { λ r. ⌜ r ≡ fillingRight (drop end (bodiesOf (now (ticket .entry)))) ⌝ }
+{
+    let len = bodies_size(ticket) - end;
+    if 503 < len {
+        return false;
+    }
+    let mut rest = [0u8; 504];
+    copy_from_bodies(ticket, end, len, 0, &mut rest);
+    !some_over_zero(&rest[..len])
+}
+
+// What undamaged blocks hold. The number of elements is looked at before any of them: it may be anything.
+fn find_elements(ticket: &[u8]) -> Found
+    requires { ⌜ damaged (now ticket) ≡ false ⌝ }
+    ensures { λ r. ⌜ FoundSays r (now (ticket .entry)) ⌝ }
+{
+    if ticket.len() == 0 {
+        return Found::NoTicket;
+    }
+    let count = field(ticket, 16, 4) as usize;
+    if 65536 < count {
+        return Found::NoTicket;
+    }
+    let Layout::Elements(end, size) = layout_of(ticket, count) else {
+        return Found::NoTicket;
+    };
+    if !is_filling_right(ticket, end) {
+        return Found::NoTicket;
+    }
+    Found::Elements(count, size)
+}
+
+// Whether one of four buffers is too short for `count` elements with `size` data bytes in all.
+fn is_room_short(
+    count: usize,
+    size: usize,
+    data_room: usize,
+    ends_room: usize,
+    marks_room: usize,
+    indexes_room: usize,
+) -> bool
+    ensures { λ r. ⌜ r ≡ buffersShort count size «data_room» «ends_room» «marks_room» «indexes_room» ⌝ }
+{
+    if ends_room < count {
+        return true;
+    }
+    if marks_room < count {
+        return true;
+    }
+    if indexes_room < count {
+        return true;
+    }
+    data_room < size
+}
+
+// Writes so many elements from the place 20 on into buffers that have room for them, and says how many data bytes that took.
+fn read_elements(
+    ticket: &[u8],
+    count: usize,
+    data: &mut [u8],
+    ends: &mut [u32],
+    marks: &mut [u8],
+    indexes: &mut [u64],
+) -> usize
+    requires { ⌜ (20 ≤ 504 * (length (now ticket) / 512)) × (count ≤ 65536) × (allLaidOut count (elementsPart (bodiesOf (now ticket))) ≡ true)
+        × (dataSize count (elementsPart (bodiesOf (now ticket))) ≤ length (now «data»)) × (count ≤ length (now ends)) × (count ≤ length (now marks)) × (count ≤ length (now indexes)) ⌝ }
+    ensures { λ r. ⌜ listed r (now («data» .exit)) (now (ends .exit)) (now (marks .exit)) (now (indexes .exit))
+        ≡ listOver (elementsIn count (elementsPart (bodiesOf (now (ticket .entry))))) (now («data» .entry)) (now (ends .entry)) (now (marks .entry)) (now (indexes .entry)) ⌝ }
+{
+    let mut at: usize = 20;
+    let mut used: usize = 0;
+    let mut i = 0;
+    while i < count {
+        // never so here: the layout was looked at before
+        let Head::Element(h) = head_at(ticket, at) else {
+            return 0;
+        };
+        copy_from_bodies(ticket, at + h.len, h.size, used, data);
+        at += h.len + h.size;
+        used += h.size;
+        ends[i] = used as u32;
+        marks[i] = h.mark;
+        indexes[i] = h.index;
+        i += 1;
+    }
+    used
+}
+
+// Reads a ticket: R and S in the answer, the elements as a list over the first numbers of the four lent buffers. A refusal leaves the buffers
+// as they were.
+pub fn read_ticket(
+    ticket: &[u8],
+    data: &mut [u8],
+    ends: &mut [u32],
+    marks: &mut [u8],
+    indexes: &mut [u64],
+) -> TicketProof
+    ensures { λ r. ⌜ ticketReadBy r (now («data» .exit)) (now (ends .exit)) (now (marks .exit)) (now (indexes .exit))
+        ≡ ticketRead (now («ticket» .entry)) (now («data» .entry)) (now (ends .entry)) (now (marks .entry)) (now (indexes .entry)) ⌝ }
+{
+    if is_damaged(ticket) {
+        return TicketProof::Refused(Refusal::DamagedTicket);
+    }
+    let Found::Elements(count, size) = find_elements(ticket) else {
+        return TicketProof::Refused(Refusal::NoTicket);
+    };
+    if is_room_short(
+        count,
+        size,
+        data.len(),
+        ends.len(),
+        marks.len(),
+        indexes.len(),
+    ) {
+        return TicketProof::Refused(Refusal::BufferShort);
+    }
+    let len = read_elements(ticket, count, data, ends, marks, indexes);
+    TicketProof::Read(
+        RetryCounter(field(ticket, 0, 8)),
+        SearchCounter(field(ticket, 8, 8)),
+        count,
+        len,
+    )
+}

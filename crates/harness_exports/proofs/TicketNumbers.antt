@@ -1,0 +1,89 @@
+-- The answers on tickets in numbers.
+use mathlib.Core.Path.{_≡_, refl, ap, _∙_}
+use mathlib.Core.List.{List, [], _∷_}
+use Prim.Native.Nat.{ℕ, _≤_, _<_}
+use native.Mathlib.Omega.{arith}
+use borrow.Author.Tests.{le-leb, lt-leb}
+use lib.ListN.{length, set}
+use lib.Seq.{sets-eq}
+use Rattle.centralized_telescope.specs.Tickets.{TicketWritten, ticketWritten, ticketWrittenBy, TicketRead, ticketRead, ticketReadBy}
+use Rattle.centralized_telescope.specs.declared.ticket.TicketBlocks.{TicketBlocks}
+use Rattle.centralized_telescope.specs.declared.ticket.TicketBlocks.the-variants as blocksAnswer
+use Rattle.centralized_telescope.specs.declared.ticket.TicketProof.{TicketProof}
+use Rattle.centralized_telescope.specs.declared.ticket.TicketProof.the-variants as proofAnswer
+use Rattle.harness_exports.specs.declared.BlocksNumbers.{BlocksNumbers}
+use Rattle.harness_exports.specs.declared.ReadNumbers.{ReadNumbers}
+use Rattle.harness_exports.specs.Exported.{inBlocksNumbers, blocksNumbers, withBlocks, exportedWriteTicket, inReadNumbers, readNumbers, withRead, exportedReadTicket}
+
+-- ---- the writer
+
+-- one store
+pub blocks-put : (out : List ℕ) (n : BlocksNumbers) → 1 ≤ length out → set out 0 (n .blocks) ≡ withBlocks n out
+unfolding withBlocks
+blocks-put out n h = rw (le-leb 1 (length out) h) (sets-eq (n .blocks ∷ []) out 0 (omega arith))
+
+pub blocks-left : (out : List ℕ) (n : BlocksNumbers) → length out < 1 → out ≡ withBlocks n out
+unfolding withBlocks
+blocks-left out n h = rw (lt-leb 1 (length out) h)
+
+-- the numbers don't hang on what is lent
+same-blocks : (a : TicketBlocks) (blocks : List ℕ) → blocksNumbers a ≡ inBlocksNumbers (ticketWrittenBy a blocks)
+same-blocks (blocksAnswer.Written n) blocks = refl
+same-blocks (blocksAnswer.Refused k) blocks = refl
+
+same-ticket : (a : TicketBlocks) (blocks : List ℕ) → blocks ≡ ticketWrittenBy a blocks .buffer
+same-ticket (blocksAnswer.Written n) blocks = refl
+same-ticket (blocksAnswer.Refused k) blocks = refl
+
+pub exported-written : (R S : ℕ) (bytes ends marks indexes blocks out : List ℕ) (a : TicketBlocks) (n : BlocksNumbers) (blocks′ out′ : List ℕ)
+    → ticketWrittenBy a blocks′ ≡ ticketWritten R S bytes ends marks indexes blocks
+    → n ≡ blocksNumbers a
+    → out′ ≡ withBlocks n out
+    → (n .number, blocks′, out′) ≡ exportedWriteTicket R S bytes ends marks indexes blocks out
+unfolding exportedWriteTicket
+exported-written R S bytes ends marks indexes blocks out a n blocks′ out′ e en eo =
+    let r = ticketWrittenBy a blocks′ in
+    let m : n ≡ inBlocksNumbers r = en ∙ same-blocks a blocks′ in
+    let here : _≡_ {A = ℕ × List ℕ × List ℕ} (n .number, blocks′, out′) (r .number, r .buffer, withBlocks (inBlocksNumbers r) out) =
+    rw (eo, m, ← same-ticket a blocks′) in
+    here ∙ ap (λ (q : TicketWritten). (q .number, q .buffer, withBlocks (inBlocksNumbers q) out)) e
+
+-- ---- the reader
+
+-- four stores
+pub read-put : (out : List ℕ) (n : ReadNumbers) → 4 ≤ length out
+    → set (set (set (set out 0 (n .retry)) 1 (n .search)) 2 (n .count)) 3 (n .len) ≡ withRead n out
+unfolding withRead
+read-put out n h = rw (le-leb 4 (length out) h) (sets-eq (n .retry ∷ n .search ∷ n .count ∷ n .len ∷ []) out 0 (omega arith))
+
+pub read-left : (out : List ℕ) (n : ReadNumbers) → length out < 4 → out ≡ withRead n out
+unfolding withRead
+read-left out n h = rw (lt-leb 4 (length out) h)
+
+same-read : (a : TicketProof) (bytes ends marks indexes : List ℕ) → readNumbers a ≡ inReadNumbers (ticketReadBy a bytes ends marks indexes)
+same-read (proofAnswer.Read R S count len) bytes ends marks indexes = refl
+same-read (proofAnswer.Refused k) bytes ends marks indexes = refl
+
+same-list : (a : TicketProof) (bytes ends marks indexes : List ℕ)
+    → (bytes ≡ ticketReadBy a bytes ends marks indexes .bytes)
+    × (ends ≡ ticketReadBy a bytes ends marks indexes .ends)
+    × (marks ≡ ticketReadBy a bytes ends marks indexes .marks)
+    × (indexes ≡ ticketReadBy a bytes ends marks indexes .indexes)
+same-list (proofAnswer.Read R S count len) bytes ends marks indexes = (refl, refl, refl, refl)
+same-list (proofAnswer.Refused k) bytes ends marks indexes = (refl, refl, refl, refl)
+
+pub exported-read : (t bytes ends marks indexes out : List ℕ) (a : TicketProof) (n : ReadNumbers) (bytes′ ends′ marks′ indexes′ out′ : List ℕ)
+    → ticketReadBy a bytes′ ends′ marks′ indexes′ ≡ ticketRead t bytes ends marks indexes
+    → n ≡ readNumbers a
+    → out′ ≡ withRead n out
+    → (n .number, bytes′, ends′, marks′, indexes′, out′) ≡ exportedReadTicket t bytes ends marks indexes out
+unfolding exportedReadTicket
+exported-read t bytes ends marks indexes out a n bytes′ ends′ marks′ indexes′ out′ e en eo =
+    let r = ticketReadBy a bytes′ ends′ marks′ indexes′ in
+    let m : n ≡ inReadNumbers r = en ∙ same-read a bytes′ ends′ marks′ indexes′ in
+    let k = same-list a bytes′ ends′ marks′ indexes′ in
+    let here : _≡_ {A = ℕ × List ℕ × List ℕ × List ℕ × List ℕ × List ℕ}
+    (n .number, bytes′, ends′, marks′, indexes′, out′)
+    (r .number, r .bytes, r .ends, r .marks, r .indexes, withRead (inReadNumbers r) out) =
+    rw (eo, m, ← k .0, ← k .1, ← k .2, ← k .3) in
+    here ∙ ap (λ (q : TicketRead). (q .number, q .bytes, q .ends, q .marks, q .indexes, withRead (inReadNumbers q) out)) e
