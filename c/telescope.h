@@ -15,9 +15,9 @@
  *
  * Set_size 400, proof_size 328 and c = 10, say, have s = 128 against f = 300; README.md has a table. What green doesn't mean:
  * - that elements are distinct: a proof may have one several times, and one that is listed often counts once. The server has to call
- *   check_distinct on its list.
- * - that an element is genuine: invented bytes go green, and so do one board's data under many indexes. A loader must know of each
- *   element of a proof, its index included, that a bench made it, by a signature or a key in its data.
+ *   check_distinct on its list: two elements are the same when data and mark agree and, where the mark is 1, the index.
+ * - that an element is genuine: invented bytes go green, and so do one board's data under many indexes, which are different elements. A
+ *   loader must know of each element of a proof, its index included, that a bench made it, by a signature or a key in its data.
  * - where data stop and an index starts: the hash takes the data and, right behind, the index in 8 bytes. An index can be rewritten as
  *   eight more data bytes, or eight data bytes as an index, and the proof stays green. Who reads board numbers out of elements must
  *   know that.

@@ -7,15 +7,15 @@ usage: harness compare [--cases N] [--seed S]
        harness load --minutes N | --seconds N [--seed S] [--threads T]
        harness load --turn N --seed S
        harness answers [--seed S]
-       harness bench [--steps | --tickets]
+       harness bench [--steps | --tickets | --distinctness]
        harness stack
        harness --help
 
 compare   Runs the verified library and the original Rust on the same inputs and compares every answer and every byte lent.
           Limits and bad input are always run whole; --cases says how many random inputs there are besides.
   --cases N   random inputs for each of the uniform and the Bernoulli sampler, N / 20 messages to hash, N / 20 of the small case,
-              N / 100 lists, each also with a repeat, for distinctness, N / 10 small searches, N / 100 bad inputs for each of
-              prover and verifier, and N / 50 lists for tickets, each with five changed tickets (default 2000000)
+              N / 10 lists for distinctness, N / 10 small searches, N / 100 bad inputs for each of prover and verifier, and N / 50
+              lists for tickets, each with five changed tickets (default 2000000)
   --seed S    decimal, or hexadecimal after 0x (default: from the clock; it is printed)
           It ends with a line of counts, or with the first case that differs and status 1.
 
@@ -29,14 +29,16 @@ load      Compares them for as long as asked, on settings and lists from the who
   --threads T (default 2)
   --turn N    that turn of the seed's alone, as after a case that differs
 
-answers   Writes a list of cases with the original Rust's answers to standard output; the library is not asked. With the same seed
-          the list is the same, byte for byte; with the usual one it is the list in crates/vectors/data/answers.txt.
+answers   Writes a list of cases to standard output with the original Rust's answers, on distinctness with those of its definition; the
+          library is not asked. With the same seed the list is the same, byte for byte; with the usual one it is the list in
+          crates/vectors/data/answers.txt.
   --seed S    decimal, or hexadecimal after 0x (default 0x43c389a516)
 
 bench     Prints a Markdown table of speeds: the library, the Rust and OpenSSL, in turns within one run.
           It needs a build with --features portable (`sha2` held to portable code) or --features bench (`sha2` as it stands).
   --steps     the time of a search's step alone, at proof sizes from 1 to 1,024
   --tickets   the speed of the calls for tickets alone
+  --distinctness   the time of the check of distinctness alone
 
 stack     Says how much stack a search of the greatest length takes.
 ";
@@ -71,6 +73,8 @@ pub enum Bench {
     Steps,
     /// The writer and the reader of tickets.
     Tickets,
+    /// The check of distinctness.
+    Distinctness,
     /// The rows for one of OpenSSL's other settings, for which the benchmark starts itself again.
     #[cfg_attr(not(feature = "bench"), allow(dead_code))]
     OpenSsl(usize),
@@ -105,6 +109,7 @@ fn bench(mut words: impl Iterator<Item = String>) -> Result<Bench, String> {
         None => Bench::Whole,
         Some("--steps") => Bench::Steps,
         Some("--tickets") => Bench::Tickets,
+        Some("--distinctness") => Bench::Distinctness,
         Some(AGAIN) => Bench::OpenSsl(words.next().and_then(|word| word.parse().ok()).ok_or("a setting's number is wanted")?),
         Some(word) => return Err(format!("bench has no `{word}`")),
     };

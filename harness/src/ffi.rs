@@ -46,7 +46,7 @@ pub const BAD_SET_SIZE: u32 = 1;
 pub const BAD_LIMIT: u32 = 2;
 /// No draw, the uniform sampler's second answer beside 0.
 pub const NO_DRAW: u32 = 1;
-/// Two elements have equal data bytes, the second answer on distinctness beside 0.
+/// Two elements are the same, the second answer on distinctness beside 0.
 pub const REPEATED: u32 = 1;
 /// q is no number from 0 to 1.
 pub const BAD_Q: u32 = 3;
@@ -160,7 +160,7 @@ pub fn small_case(u: u64, c: f64, out: &mut (impl Place<u64> + ?Sized)) -> u32 {
     unsafe { alba_small_case(u, c, out, out_len) }
 }
 
-/// `BAD_LIST`, then `TOO_LARGE`, otherwise 0 for a list in which no two elements have equal data bytes and `REPEATED` for another.
+/// `BAD_LIST`, then `TOO_LARGE`, otherwise 0 for a list in which no two elements are the same and `REPEATED` for another.
 pub fn check_distinct(list: Listed<u32, u64>) -> u32 {
     let ((data, data_len), (ends, ends_len)) = (parts(list.data), parts(list.ends));
     let ((marks, marks_len), (indexes, indexes_len)) = (parts(list.marks), parts(list.indexes));

@@ -1,5 +1,5 @@
-//! Compares the verified library with the Rust that it is made from (`compare`, `load`), stores answers of the Rust (`answers`), and
-//! measures both (`bench`, `stack`).
+//! Compares the verified library with the Rust that it is made from, and with the specification's words where they say what the Rust hasn't
+//! (`compare`, `load`), stores answers (`answers`), and measures both (`bench`, `stack`).
 
 mod answers;
 mod args;

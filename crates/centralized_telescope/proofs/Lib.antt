@@ -39,6 +39,7 @@ mod ProofAnswers
 mod BlockWriting
 mod BlockReading
 -- misc.rt
+mod Comparing
 mod Merging
 mod Halves
 mod DistinctAnswers

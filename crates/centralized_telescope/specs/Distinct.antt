@@ -1,4 +1,4 @@
--- Document 01, Distinctness: whether each element of a list has data of its own, whatever the indexes.
+-- Document 01, Distinctness, as 02's N2 has it read: whether no element of a list stands at two of its places.
 use mathlib.Core.Path.{_≡_}
 use mathlib.Core.Bool.{Bool, true, false, cond, not, _&&_}
 use mathlib.Core.Logic.{_↔_}
@@ -6,26 +6,27 @@ use mathlib.Core.List.{List, [], _∷_}
 use Prim.Native.Nat.{ℕ, _<_}
 use lib.Dec.{eqb}
 use lib.ListN.{length}
-use Rattle.centralized_telescope.specs.Lists.{sameBytes}
+use Rattle.centralized_telescope.specs.Lists.{someOf, sameBytes}
 use Rattle.centralized_telescope.specs.Refusals.{refusalNumber}
-use Rattle.centralized_telescope.specs.Elements.{Element, elements, elementAt, listCheck}
+use Rattle.centralized_telescope.specs.Elements.{Element, markOf, numberOf, elements, elementAt, listCheck}
 use Rattle.centralized_telescope.specs.declared.misc.Distinctness.{Distinctness}
 use Rattle.centralized_telescope.specs.declared.misc.Distinctness.the-variants as is
 
--- at any two places the data differ
+-- no two places hold the same element
 abbrev pub Distinct : List Element → Type 0
-Distinct es = (i j : ℕ) → i < j → j < length es → elementAt es i .bytes ≡ elementAt es j .bytes → ⊥
+Distinct es = (i j : ℕ) → i < j → j < length es → elementAt es i ≡ elementAt es j → ⊥
 
 -- ---- the yes or no
 
--- these data bytes are not those of an element of the list
-unfoldable pub noneSame : List ℕ → List Element → Bool
-noneSame own [] = true
-noneSame own (e ∷ es) = not (sameBytes own (e .bytes)) && noneSame own es
+-- 02, N2: data and mark agree and, where the mark is 1, the index
+unfoldable pub sameElement : Element → Element → Bool
+sameElement e f =
+    sameBytes (e .bytes) (f .bytes) && (eqb (markOf (e .index)) (markOf (f .index)) && eqb (numberOf (e .index)) (numberOf (f .index)))
 
+-- none is the same as one behind it
 unfoldable pub noneEqual : List Element → Bool
 noneEqual [] = true
-noneEqual (e ∷ es) = noneSame (e .bytes) es && noneEqual es
+noneEqual (e ∷ es) = not (someOf (sameElement e) es) && noneEqual es
 
 -- it is yes exactly when the list is distinct
 abbrev pub distinctExactly : Type 0

@@ -20,7 +20,7 @@ pub fn all_cases()
     ensures { λ _. ⌜ AllCases ⌝ }
 {}
 
-// On an accepted list the answer of `check_distinct` is yes exactly when at any two places the data differ.
+// On an accepted list the answer of `check_distinct` is yes exactly when no two places hold the same element.
 pub fn distinct_exactly()
     ensures { λ _. ⌜ distinctExactly ⌝ }
 {}

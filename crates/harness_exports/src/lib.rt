@@ -65,7 +65,8 @@ pub extern "C" fn alba_small_case(u: u64, c: f64, out: &mut [u64]) -> u32
     }
 }
 
-// Whether no two elements of a lent list have equal data bytes: 0 for yes, 1 for no, or the list's refusal, 4 or 5.
+// Whether no two elements of a lent list are the same, in data, mark and, where it is 1, index: 0 for yes, 1 for no, or the list's
+// refusal, 4 or 5.
 #[no_mangle]
 pub extern "C" fn alba_check_distinct(
     data: &[u8],

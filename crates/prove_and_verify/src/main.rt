@@ -1,4 +1,4 @@
-// Makes a proof from a file of elements, writes it to a file and verifies it.
+// Makes a proof from a file of elements, writes it to a file and verifies it. Before it searches it says whether two elements are the same.
 //
 //     prove_and_verify ELEMENTS PROOF SET_SIZE U C
 //     prove_and_verify ELEMENTS PROOF SET_SIZE PROOF_SIZE MAX_RETRIES SEARCH_WIDTH DFS_BOUND Q
@@ -10,6 +10,7 @@
 // proof: with the deepest search, that is what fits the system's ordinary stack of 8 MB.
 mod args;
 mod proof_file;
+mod repeats;
 mod report;
 mod search;
 mod settings;

@@ -3,6 +3,7 @@ ghost use mathlib.Core.Path.{_≡_};
 ghost use lib.ListN.{length};
 use crate::proof_file;
 use crate::proof_file::Counters;
+use crate::repeats;
 use crate::settings;
 use centralized_telescope::Params;
 use centralized_telescope::ProofSearch;
@@ -58,7 +59,17 @@ fn say_not_found(number: u64, count: u64) {
     say_outcome(b"", number);
 }
 
-fn search(p: Params, proof: &[u8], data: &[u8], ends: &[u32], marks: &[u8], indexes: &[u64]) {
+// Says whether two elements are the same, which the prover doesn't ask; searches, and says what came of it.
+fn search(
+    p: Params,
+    elements: &[u8],
+    proof: &[u8],
+    data: &[u8],
+    ends: &[u32],
+    marks: &[u8],
+    indexes: &[u64],
+) {
+    repeats::say_repeats(elements, data, ends, marks, indexes);
     let mut places = [0u32; 1024];
     let mut table = table_room();
     let found = centralized_telescope::prove(
@@ -115,6 +126,7 @@ pub fn run(p: Params, elements: &[u8], proof: &[u8]) {
     say_task(p, elements, n);
     search(
         p,
+        elements,
         proof,
         &data[0..bytes],
         &ends[0..n],

@@ -246,21 +246,54 @@ fn write_data(fd: i32, data: &[u8]) -> bool {
     hex::write(fd, data)
 }
 
-// A space and the index, where the mark is 1.
-fn write_index(fd: i32, marks: &[u8], indexes: &[u64], place: usize) -> bool {
+// The index of the element at a place; none where the mark isn't 1, or where the list has no such place.
+fn index_at(marks: &[u8], indexes: &[u64], place: usize) -> Index {
     if marks.len() <= place {
-        return true;
+        return no_index();
     }
     if indexes.len() <= place {
-        return true;
+        return no_index();
     }
     if marks[place] != 1 {
+        return no_index();
+    }
+    Index {
+        known: true,
+        mark: 1,
+        number: indexes[place],
+    }
+}
+
+// A space and the index, where the mark is 1.
+fn write_index(fd: i32, marks: &[u8], indexes: &[u64], place: usize) -> bool {
+    let index = index_at(marks, indexes, place);
+    if index.mark != 1 {
         return true;
     }
     if !io::write_all(fd, b" ") {
         return false;
     }
-    io::print_decimal(fd, indexes[place])
+    io::print_decimal(fd, index.number)
+}
+
+// Whether two places of a list have the same element: the same data and mark and, where the mark is 1, the same index.
+pub fn are_same(
+    data: &[u8],
+    ends: &[u32],
+    marks: &[u8],
+    indexes: &[u64],
+    a: usize,
+    b: usize,
+) -> bool {
+    let x = index_at(marks, indexes, a);
+    let y = index_at(marks, indexes, b);
+    if x.mark != y.mark {
+        return false;
+    }
+    if x.number != y.number {
+        return false;
+    }
+    check::same(data_at(data, ends, a), data_at(data, ends, b))
 }
 
 // Writes the element at a place of a list as a line, and answers as `io::write_all` does.

@@ -1,4 +1,4 @@
-// The stored answers of the Rust, asked of the library again. The list's first lines say what the others mean.
+// The stored answers of the Rust, on distinctness of its definition, asked of the library again. The list's first lines say what the others mean.
 ghost use Prim.Native.Nat.{_≤_};
 ghost use lib.ListN.{length};
 use crate::ask;
@@ -358,7 +358,7 @@ pub fn are_equal(name: &[u8]) -> bool {
     let uniform = is_whole(b"the Rust's answers, uniform", counts[0], 800);
     let bernoulli = is_whole(b"the Rust's answers, bernoulli", counts[1], 600);
     let small = is_whole(b"the Rust's answers, small", counts[2], 400);
-    let distinct = is_whole(b"the Rust's answers, distinct", counts[3], 250);
+    let distinct = is_whole(b"the definition's answers, distinct", counts[3], 250);
     let prove = is_whole(b"the Rust's answers, prove", counts[4], 600);
     let verify = is_whole(b"the Rust's answers, verify", counts[5], 750);
     is_right && uniform && bernoulli && small && distinct && prove && verify

@@ -1,9 +1,10 @@
 //! Cases that ask of a list of elements: distinctness, prover and verifier.
 
 use super::{bits, Answers, DISTINCT, PROVE, VERIFY};
+use crate::compare::planted::{self, PairData, Planting, PLANTS, SHAPES};
 use crate::compare::searches::{self, Outcome};
 use crate::compare::verdicts::{self, Claim};
-use crate::compare::{distinct, limits, Checked};
+use crate::compare::{limits, rules, Checked};
 use crate::{ffi, ffi::Settings, list::List, original, original::ProofOf, rng::Rng};
 
 /// The completeness of the realistic settings.
@@ -11,7 +12,7 @@ const COMPLETENESS: f64 = 10.0;
 /// The bound of a family's first search, and the most data bytes of its list.
 const WIDE: u64 = 1000;
 const MOST: usize = 1000;
-/// The most elements whose distinctness is asked of each kind of list.
+/// The most elements whose distinctness is asked of each shape.
 const LONGEST: usize = 9;
 
 pub fn write(answers: &mut Answers) -> Checked {
@@ -29,38 +30,28 @@ pub fn write(answers: &mut Answers) -> Checked {
     Ok(())
 }
 
-/// Lists of each length of every kind, and each again with one element's data put in the place of another's.
+/// Lists of each length of every shape, and each again with a pair planted in it, each pair in its turn.
 fn write_distinct(answers: &mut Answers) {
     let mut rng = answers.rng(DISTINCT);
     for count in 0..=LONGEST {
-        for kind in 0..distinct::KINDS {
-            let mut elements = distinct::made(&mut rng, kind, count);
-            distinct(answers, &listed(&mut rng, &elements));
+        for shape in 0..SHAPES.len() {
+            let elements = planted::elements(&mut rng, shape, count);
+            distinct(answers, &planted::as_is(&elements, shape).list);
             if count > 1 {
-                let (from, to) = (rng.below(count as u64) as usize, rng.below(count as u64) as usize);
-                elements[to] = elements[from].clone();
-                distinct(answers, &listed(&mut rng, &elements));
+                let planting = Planting { plant: (count + shape) % PLANTS.len(), is_next: count % 2 == 0, data: PairData::Own };
+                distinct(answers, &planted::with_pair(&mut rng, &elements, shape, planting).list);
             }
         }
     }
 }
 
-/// Elements with this data, some of them with an index.
-fn listed(rng: &mut Rng, elements: &[Vec<u8>]) -> List {
-    let mut list = List::default();
-    for data in elements {
-        let index = (rng.below(2) == 0).then(|| rng.below(3));
-        list.push(data, index, 0);
-    }
-    list
-}
-
+/// What the request's words say: the Rust goes by data alone.
 fn distinct(answers: &mut Answers, list: &List) {
     if answers.is_full(DISTINCT) {
         return;
     }
     answers.list(list);
-    let answer = u32::from(oracle::check_distinct(&list.elements()));
+    let answer = u32::from(rules::distinctness(list) == 0);
     answers.case(DISTINCT, "", &answer.to_string());
 }
 

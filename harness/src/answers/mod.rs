@@ -1,4 +1,5 @@
-//! A list of cases with the answers of the original Rust, for a program that replays them where no Rust is at hand. Only the Rust is asked.
+//! A list of cases with the answers of the original Rust, on distinctness with those of the request's words (`distinctness` of
+//! compare/rules.rs), for a program that replays them where no Rust is at hand. The library is not asked.
 
 mod elements;
 mod samplers;
@@ -14,7 +15,7 @@ const FORM: &str = "\
 # small U C = 0 PROOF_SIZE MAX_RETRIES SEARCH_WIDTH DFS_BOUND Q
 # list                                               begins a list, empty so far, of which the lines below ask
 # + DATA INDEX                                       the list's next element; without an index: + DATA
-# distinct = ANSWER                                  1: no two elements have equal data, 0: some two have
+# distinct = ANSWER                                  1: no two elements are the same, 0: some two are
 # prove SETTINGS = 0 R S COUNT PLACES                or 10, or 11 COUNT, or 12 COUNT
 # verify SETTINGS R S = NUMBER                       of the list as a proof's: 0, 20, 21 or 22
 # SETTINGS are SET_SIZE PROOF_SIZE MAX_RETRIES SEARCH_WIDTH DFS_BOUND Q. PLACES are PROOF_SIZE numbers, counted from 0.
@@ -28,7 +29,9 @@ pub fn run(seed: u64) -> Result<(), String> {
     let counts: Vec<String> = KINDS.iter().zip(answers.counts).map(|((name, _), count)| format!("{name} {count}")).collect();
     let head = format!(
         "# Answers of the original Rust, cardano-scaling/alba, commit 43c389a516, in a release build.\n\
-         # `harness answers --seed 0x{seed:x}` wrote this list. Only the Rust was asked.\n# Cases: {}.\n{FORM}",
+         # On distinctness the answer is that of the definition, which the harness works out: two elements are the same when data and mark\n\
+         # agree and, where the mark is 1, the index. The Rust goes by data alone, and would say 0 to some that have 1.\n\
+         # `harness answers --seed 0x{seed:x}` wrote this list. The library was not asked.\n# Cases: {}.\n{FORM}",
         counts.join(", ")
     );
     io::stdout().write_all((head + &answers.lines).as_bytes()).map_err(|e| format!("harness: {e}"))

@@ -15,10 +15,15 @@ pub struct Measured {
     pub longer: f64,
 }
 
-pub fn in_turns<const N: usize>(mut contenders: [Work; N]) -> [Measured; N] {
+pub fn in_turns<const N: usize>(contenders: [Work; N]) -> [Measured; N] {
+    in_rounds(ROUNDS, contenders)
+}
+
+/// The same in so many rounds.
+pub fn in_rounds<const N: usize>(rounds: usize, mut contenders: [Work; N]) -> [Measured; N] {
     let calls: [u64; N] = std::array::from_fn(|i| calls_in_a_turn(&mut contenders[i]));
     let rounds: Vec<[f64; N]> =
-        (0..ROUNDS).map(|_| std::array::from_fn(|i| seconds(&mut contenders[i], calls[i]) / calls[i] as f64 * 1e9)).collect();
+        (0..rounds).map(|_| std::array::from_fn(|i| seconds(&mut contenders[i], calls[i]) / calls[i] as f64 * 1e9)).collect();
     std::array::from_fn(|i| Measured {
         ns: median(rounds.iter().map(|round| round[i]).collect()),
         longer: median(rounds.iter().map(|round| round[i] / round[0]).collect()),

@@ -3,6 +3,7 @@
 //! All work on the same buffers, which are filled once and not cleared between calls. The library is called by its C exports and
 //! OpenSSL by its C functions; the Rust is another crate, of which the compiler may inline what it likes, as for any user.
 
+mod distinctness;
 mod measure;
 mod openssl;
 mod searches;
@@ -12,11 +13,9 @@ mod tickets;
 use crate::{
     args::{Bench, AGAIN},
     ffi,
-    list::List,
     rng::Rng,
 };
 use measure::{in_turns, Measured, Work, ROUNDS};
-use oracle::utils::types::Element;
 use sha2::{Digest, Sha256};
 use std::{fs, hint::black_box, process};
 
@@ -32,6 +31,7 @@ pub fn run(part: Bench) -> Result<(), String> {
     match part {
         Bench::Steps => steps::run(),
         Bench::Tickets => tickets::run(),
+        Bench::Distinctness => distinctness::run(),
         _ => whole(),
     }
 }
@@ -42,12 +42,15 @@ fn whole() -> Result<(), String> {
         again(setting)?;
     }
     samplers();
-    distinctness();
+    distinctness::run()?;
     searches::run()?;
     steps::run()?;
     tickets::run()?;
     println!("\nThe ratio is of speeds: 1.00 is as fast, above it faster. Times are the thread's own; times and ratios are medians of {ROUNDS} rounds,");
-    println!("those of searches medians over their seeds; where nothing is found it is one search.");
+    println!(
+        "of {} for elements of 4,096 bytes, and of searches over their seeds; where nothing is found it is one search.",
+        distinctness::FEW
+    );
     Ok(())
 }
 
@@ -148,25 +151,6 @@ fn over<'a, T>(hashes: &'a [[u8; 16]; 256], call: impl Fn(&[u8; 16]) -> T + 'a) 
             black_box(call(black_box(&hashes[i as usize % 256])));
         }
     })
-}
-
-/// The most elements that are admitted, all different: 32 random bytes each.
-fn distinctness() {
-    let mut rng = Rng::new(3, 0);
-    let elements: Vec<Element<[u8; 32]>> = (0..65_536u64)
-        .map(|index| {
-            let mut data = [0; 32];
-            rng.fill(&mut data);
-            Element::new(data, Some(index))
-        })
-        .collect();
-    let mut list = List::default();
-    elements.iter().for_each(|element| list.push(&element.data, element.index, 0));
-    let [ours, theirs] = in_turns([
-        Box::new(|calls| (0..calls).for_each(|_| assert_eq!(ffi::check_distinct(black_box(&list).lent()), 0))),
-        Box::new(|calls| (0..calls).for_each(|_| assert!(oracle::check_distinct(black_box(&elements))))),
-    ]);
-    row("distinctness of 65,536 elements of 32 bytes", "the Rust", ours, theirs, None);
 }
 
 /// The processor's name, and whether it has SHA instructions.

@@ -69,10 +69,17 @@ impl Tally {
     }
 }
 
-/// One block under way: random numbers of its own, and its answers.
+/// One block under way: random numbers of its own, its answers, and the kinds of input that they were to, where those are counted.
 pub struct Block {
     pub rng: Rng,
     pub tally: Tally,
+    pub seen: Tally,
+}
+
+impl Block {
+    pub fn new(seed: u64, stream: u64) -> Self {
+        Block { rng: Rng::new(seed, stream), tally: Tally::default(), seen: Tally::default() }
+    }
 }
 
 /// What has been shared out, and what came of it.
@@ -88,9 +95,9 @@ pub fn run(run: &mut Run, blocks: u64, work: impl Fn(u64, &mut Block) -> Checked
     let shared = Mutex::new(Shared { run, next: 0, failed: Ok(()) });
     let worker = || {
         while let Some(number) = take(&shared, blocks) {
-            let mut block = Block { rng: Rng::new(seed, (number + 1) << 16 | stream), tally: Tally::default() };
+            let mut block = Block::new(seed, (number + 1) << 16 | stream);
             let done = work(number, &mut block);
-            give_back(&shared, number, &block.tally, done);
+            give_back(&shared, number, &block, done);
         }
     };
     thread::scope(|scope| start(scope, thread::available_parallelism().map_or(1, |n| n.get()), &worker));
@@ -111,10 +118,11 @@ fn take(shared: &Mutex<Shared>, blocks: u64) -> Option<u64> {
     (number < blocks && shared.failed.is_ok()).then_some(number)
 }
 
-fn give_back(shared: &Mutex<Shared>, number: u64, tally: &Tally, done: Checked) {
+fn give_back(shared: &Mutex<Shared>, number: u64, block: &Block, done: Checked) {
     let mut shared = shared.lock().unwrap_or_else(PoisonError::into_inner);
-    shared.run.tally.add(tally);
-    shared.run.count_more(tally.sum());
+    shared.run.tally.add(&block.tally);
+    shared.run.seen.add(&block.seen);
+    shared.run.count_more(block.tally.sum());
     if let (Err(case), true) = (done, shared.failed.is_ok()) {
         shared.failed = Err(format!("  block {number}\n{case}"));
     }

@@ -92,14 +92,12 @@ fn small() -> Export {
     Export { name: "alba_small_case", args, answer: 0, ours, due }
 }
 
-/// Parameters: data, ends, marks, indexes. The data are lawful marks and the marks lawful data, the one distinct and the others not.
+/// Parameters: data, ends, marks, indexes. The data are lawful marks and the marks lawful data: the elements differ in their indexes, and
+/// with these unmarked in nothing.
 fn distinct() -> Export {
-    let args = Args { bytes: vec![vec![0, 1], vec![1, 1]], words: vec![vec![1, 2]], longs: vec![vec![8, 9]], ..Args::default() };
+    let args = Args { bytes: vec![vec![0, 0], vec![1, 1]], words: vec![vec![1, 2]], longs: vec![vec![8, 9]], ..Args::default() };
     let ours = |args: &mut Args| ffi::check_distinct(list_of(args).lent());
-    let due = |args: &mut Args| {
-        let list = list_of(args);
-        Ok(rules::list(&list).map_or_else(|number| number, |()| if oracle::check_distinct(&list.elements()) { 0 } else { ffi::REPEATED }))
-    };
+    let due = |args: &mut Args| Ok(rules::distinctness(&list_of(args)));
     Export { name: "alba_check_distinct", args, answer: 0, ours, due }
 }
 

@@ -10,6 +10,7 @@ mod fence;
 pub mod hash;
 pub mod limits;
 mod parameters;
+pub mod planted;
 pub mod prover_refusals;
 pub mod refusals;
 pub mod rules;
@@ -43,7 +44,7 @@ pub fn run(options: &Compare) -> Checked {
         ("hash", hash::run, options.cases / 20),
         ("hash at its limit", hash::at_limit, 0),
         ("small case", small_case::run, options.cases / 20),
-        ("distinctness", distinct::run, options.cases / 100),
+        ("distinctness", distinct::run, options.cases / 10),
         ("refusals", refusals::run, 0),
         ("small searches", searches::small, options.cases / 10),
         ("realistic searches", searches::realistic, 0),
@@ -55,10 +56,11 @@ pub fn run(options: &Compare) -> Checked {
     let (mut counts, mut parts) = (Vec::new(), String::new());
     for (stream, (name, kind, cases)) in (0..).zip(kinds) {
         let seeds = (options.seed, stream);
-        let mut run = Run { rng: Rng::new(seeds.0, seeds.1), seeds, name, done: 0, tally: Tally::default(), shown: Instant::now() };
+        let (tally, seen) = (Tally::default(), Tally::default());
+        let mut run = Run { rng: Rng::new(seeds.0, seeds.1), seeds, name, done: 0, tally, seen, shown: Instant::now() };
         kind(&mut run, cases).map_err(|case| format!("{name}: DIFFERS (seed 0x{:016x}, case {})\n{case}", options.seed, run.done))?;
         counts.push(format!("{name} {}{}", run.done, run.tally.totals()));
-        parts += &run.tally.lines(name);
+        parts += &(run.tally.lines(name) + &run.seen.lines(name));
     }
     print!("{parts}");
     println!("equal in all cases: {}", counts.join(", "));
@@ -74,6 +76,8 @@ pub struct Run {
     done: u64,
     /// How often each answer came, where that tells something.
     tally: Tally,
+    /// How often each kind of input came, by its answers, where none may be left out.
+    seen: Tally,
     shown: Instant,
 }
 

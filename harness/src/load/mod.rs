@@ -6,8 +6,7 @@ mod turns;
 
 use crate::args::Load;
 use crate::compare::blocks::{self, Block, Tally};
-use crate::compare::Checked;
-use crate::rng::Rng;
+use crate::compare::{distinct, Checked};
 use std::panic::{self, AssertUnwindSafe};
 use std::sync::{Mutex, MutexGuard, PoisonError};
 use std::thread;
@@ -25,6 +24,8 @@ struct Shared {
     end: u64,
     running: usize,
     tally: Tally,
+    /// How often each kind of list for distinctness came.
+    seen: Tally,
     failed: Checked,
 }
 
@@ -34,11 +35,11 @@ pub fn run(options: &Load) -> Checked {
     let started = Instant::now();
     let is_time = || turn.is_some() || started.elapsed() < time;
     let (next, end) = turn.map_or((0, u64::MAX), |turn| (turn, turn + 1));
-    let shared = Mutex::new(Shared { next, end, running: threads, tally: Tally::default(), failed: Ok(()) });
+    let shared = Mutex::new(Shared { next, end, running: threads, tally: Tally::default(), seen: Tally::default(), failed: Ok(()) });
     let worker = || {
         while let Some(number) = take(&shared, is_time()) {
-            let (tally, done) = run_turn(seed, number);
-            give_back(&shared, seed, number, &tally, done);
+            let (block, done) = run_turn(seed, number);
+            give_back(&shared, seed, number, &block, done);
         }
         lock(&shared).running -= 1;
     };
@@ -48,7 +49,10 @@ pub fn run(options: &Load) -> Checked {
     });
     let ended = shared.into_inner().unwrap_or_else(PoisonError::into_inner);
     ended.failed?;
-    print!("{}", table(&ended.tally));
+    print!("{}{}", table(&ended.tally), ended.seen.lines("distinctness"));
+    if turn.is_none() {
+        distinct::none_missing(&ended.seen).map_err(|why| format!("distinctness: FAILED (seed 0x{seed:016x})\n{why}"))?;
+    }
     println!("equal in all cases: {}", so_far(&ended.tally, started));
     Ok(())
 }
@@ -68,15 +72,16 @@ fn take(shared: &Mutex<Shared>, is_time: bool) -> Option<u64> {
 }
 
 /// What a turn runs is fixed by the seed and its number. Where the harness or the Rust stops, that is a case that differs.
-fn run_turn(seed: u64, number: u64) -> (Tally, Checked) {
-    let mut block = Block { rng: Rng::new(seed, number), tally: Tally::default() };
+fn run_turn(seed: u64, number: u64) -> (Block, Checked) {
+    let mut block = Block::new(seed, number);
     let done = panic::catch_unwind(AssertUnwindSafe(|| turns::run(number, &mut block)));
-    (block.tally, done.unwrap_or_else(|_| Err("  it stopped, with the message above\n".to_string())))
+    (block, done.unwrap_or_else(|_| Err("  it stopped, with the message above\n".to_string())))
 }
 
-fn give_back(shared: &Mutex<Shared>, seed: u64, number: u64, tally: &Tally, done: Checked) {
+fn give_back(shared: &Mutex<Shared>, seed: u64, number: u64, block: &Block, done: Checked) {
     let mut shared = lock(shared);
-    shared.tally.add(tally);
+    shared.tally.add(&block.tally);
+    shared.seen.add(&block.seen);
     if let (Err(case), true) = (done, shared.failed.is_ok()) {
         let again = format!("harness load --seed 0x{seed:016x} --turn {number}");
         shared.failed = Err(format!("{}: DIFFERS (`{again}` runs it again)\n{case}", turns::name(number)));

@@ -2,12 +2,13 @@
 
 use super::draws::{self, up_to};
 use crate::compare::blocks::Block;
+use crate::compare::planted::{NUMBERS, PLANTS, SHAPES};
 use crate::compare::rules::{BYTES, ELEMENTS, MOST};
 use crate::compare::{
     bernoulli, distinct, faults, hash, prover_refusals, refusals, searches, small_case, tickets, uniform, verdicts, verifier_refusals,
 };
 use crate::compare::{Answered, Checked};
-use crate::{ffi, ffi::Settings, rng::Rng, ticket::Proof};
+use crate::{ffi, ffi::Settings, list::List, rng::Rng, ticket::Proof};
 use std::sync::{Mutex, PoisonError};
 
 type Turn = fn(&mut Block) -> Checked;
@@ -92,20 +93,31 @@ fn small_cases(block: &mut Block) -> Checked {
     note(block, "small case", answer)
 }
 
-/// Lists of one kind with and without a repeat, and lists as a search takes them, whole and with faults.
+/// Every pair in a short list; then lists of each shape and at the lengths that matter, each with some pair, and one as a search takes it,
+/// these also with faults.
 fn distinctness(block: &mut Block) -> Checked {
-    let (kind, count) = (block.rng.below(distinct::KINDS), up_to(&mut block.rng, 4096));
-    let mut lists = distinct::with_repeat(&mut block.rng, kind, count as usize);
-    let len = up_to(&mut block.rng, ELEMENTS as u64);
-    lists.push(draws::any_list(&mut block.rng, len as usize));
-    for mut list in lists {
-        note(block, "distinctness", distinct::check(&list))?;
-        for _ in 0..2 {
-            faults::in_list(&mut block.rng, &mut list);
-            note(block, "distinctness", distinct::check(&list))?;
-        }
+    distinct::every_pair(block, NUMBERS, 9)?;
+    let each_shape = (0..SHAPES.len()).map(|shape| (shape, up_to(&mut block.rng, 4096) as usize));
+    let mut wanted: Vec<(usize, usize)> = each_shape.collect();
+    for count in [0, 1, 2, 1001 + block.rng.below(4096) as usize, ELEMENTS] {
+        wanted.push((block.rng.below(SHAPES.len() as u64) as usize, count));
     }
-    Ok(())
+    for (shape, count) in wanted {
+        let plant = block.rng.below(PLANTS.len() as u64) as usize;
+        let list = distinct::check_pair(block, shape, plant, count)?;
+        check_faulty(block, list)?;
+    }
+    let len = up_to(&mut block.rng, ELEMENTS as u64);
+    let list = draws::any_list(&mut block.rng, len as usize);
+    distinct::check_list(block, &list)?;
+    check_faulty(block, list)
+}
+
+fn check_faulty(block: &mut Block, mut list: List) -> Checked {
+    (0..2).try_for_each(|_| {
+        faults::in_list(&mut block.rng, &mut list);
+        distinct::check_list(block, &list)
+    })
 }
 
 /// One list with three bounds: the one drawn as far as the work admits it, one at or near which the outcome may turn, and one of any
@@ -174,7 +186,7 @@ fn full(block: &mut Block) -> Checked {
     let _alone = FULL.lock().unwrap_or_else(PoisonError::into_inner);
     full_strings(block)?;
     let list = searches::list_of(&mut block.rng, ELEMENTS, BYTES, BYTES);
-    note(block, "distinctness", distinct::check(&list))?;
+    distinct::check_list(block, &list)?;
     tickets::there_and_back(block, &Proof { retry: 1, search: 2, list: list.clone() })?;
     let settings = Settings { set_size: MOST.set_size, max_retries: 1, dfs_bound: 1000, ..draws::any_settings(&mut block.rng) };
     let given = prover_refusals::enough(settings, list);

@@ -77,6 +77,10 @@ size-at from (k ∷ n) (suc i) h e = size-at k n i (omega arith) (neither (ltb 4
 
 -- ---- what the list means
 
+-- an element is its data and its index
+pub same-parts : {a b : List ℕ} {i j : Option ℕ} → a ≡ b → i ≡ j → _≡_ {A = Element} (record { bytes = a; index = i }) (record { bytes = b; index = j })
+same-parts p q = rw (p, q)
+
 length-from : (from : ℕ) (d n m x : List ℕ) → length n ≡ length m → length n ≡ length x → length (elementsFrom from d n m x) ≡ length n
 unfolding elementsFrom
 length-from from d [] m x M X = refl
