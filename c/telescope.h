@@ -123,7 +123,7 @@ uint32_t alba_sample_bernoulli(const uint8_t *h, size_t h_len, double q);
  * Answers the first of these that it meets: ALBA_BAD_SET_SIZE; ALBA_BAD_LIMIT; ALBA_BAD_PROBABILITY; ALBA_MALFORMED, if ends_len is
  * no multiple of 4 or indexes_len none of 8, if the counts differ, if a mark is over 1, or if an end is before the one before it or
  * past data_len; ALBA_TOO_LARGE; ALBA_INCORRECT_NUMBER_ELEMENTS; ALBA_INVALID_PARAMETERS; ALBA_INVALID_PROOF. Else ALBA_ACCEPTED.
- * It takes time in proportion to what it is lent, and less than 20,000 bytes of stack: 15,176 at most were measured, whatever proof_size
+ * It takes time in proportion to what it is lent, and less than 20,000 bytes of stack: 14,820 at most were measured, whatever proof_size
  * is (c/stack.c, with symbols bound before; a first call in which memcpy and memset are still looked up takes some 2,500 more).
  */
 uint32_t alba_verify(uint64_t set_size, uint64_t proof_size, uint64_t max_retries, uint64_t search_width, uint64_t dfs_bound, double q,

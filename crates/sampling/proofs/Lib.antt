@@ -5,8 +5,8 @@ mod BytesRead
 -- sha256.rt
 mod Schedule
 mod Rounds
-mod Blocks
 mod Absorbing
+mod MessageEnd
 -- sample.rt
 mod Remainder
 mod PowerOfTwo

@@ -1,59 +1,50 @@
 -- Round after round over the schedule.
-use mathlib.Core.Path.{_≡_, refl, sym, _∙_}
+use mathlib.Core.Path.{_≡_, refl, _∙_}
 use mathlib.Core.List.{List}
-use Prim.Native.Nat.{ℕ, zero, suc, _+_, _-_, _%_, _≤_, _<_}
-use native.Mathlib.Nat.{add-zero, add-suc}
+use Prim.Native.Nat.{ℕ, _+_, _≤_, _<_}
+use native.Mathlib.Decide.{decLt}
+use native.Mathlib.Numerals.{add-one}
 use native.Mathlib.Omega.{arith}
-use lib.ListN.{length, getD, take, drop}
-use lib.Seq.{getD-take, getD-drop}
+use lib.ListN.{length, getD, set, length-set}
+use lib.Seq.{getD-set-same, getD-set-other}
 use Rattle.sampling.specs.Fips180.{K, W, round, rounds}
-use Rattle.sampling.specs.inner.HashInner.{Window, roundsOver}
+use Rattle.sampling.specs.inner.HashInner.{AfterRounds, RoundsFrom}
 use Rattle.sampling.specs.declared.sha256.State.{State}
 
--- rounds of a schedule are rounds over all the constants
-whole : (s : State) (ws : List ℕ) (n : ℕ) → rounds s ws n ≡ roundsOver s K ws n
-unfolding roundsOver rounds
-whole s ws zero = refl
-whole s ws (suc n) = rw (whole s ws n)
+-- before the first round
+pub no-round : (h : State) (M : List ℕ) → AfterRounds h M 0 h K
+unfolding rounds
+no-round h M = record { variables = refl; size = refl; word = λ n l. absurd (omega arith); constant = λ n l g. refl }
 
--- n rounds more, over constants and words that are those from a on
-onward : (k w k′ w′ : List ℕ) (v : State) (a n : ℕ) → ((i : ℕ) → i < n → getD k′ i 0 ≡ getD k (a + i) 0)
-    → ((i : ℕ) → i < n → getD w′ i 0 ≡ getD w (a + i) 0) → roundsOver (roundsOver v k w a) k′ w′ n ≡ roundsOver v k w (a + n)
-unfolding roundsOver
-onward k w k′ w′ v a zero p q = rw add-zero
-onward k w k′ w′ v a (suc n) p q =
-    rw (add-suc, onward k w k′ w′ v a n (λ i h. p i (omega arith)) (λ i h. q i (omega arith)), p n (omega arith), q n (omega arith))
-
--- a part of a list has the list's elements
-part : (l : List ℕ) (a m i : ℕ) → i < m → getD (take m (drop a l)) i 0 ≡ getD l (a + i) 0
-part l a m i h = rw (getD-take, getD-drop)
-
--- eight rounds, and eight more
-pub twice-eight : (k w : List ℕ) (v : State) {half r : State} → 16 ≤ length k → 16 ≤ length w → half ≡ roundsOver v k w 8
-    → r ≡ roundsOver half (take (length k - 8) (drop 8 k)) (take (length w - 8) (drop 8 w)) 8 → r ≡ roundsOver v k w 16
-twice-eight k w v a b p q =
-    rw p at q ∙ onward k w _ _ v 8 8 (λ i h. part k 8 (length k - 8) i (omega arith)) (λ i h. part w 8 (length w - 8) i (omega arith))
-
--- sixteen rounds more over a window of the schedule
-pub sixteen : (M w : List ℕ) (s : State) (t : ℕ) {v r : State} → t % 16 ≡ 0 → t ≤ 48 → Window M t w → v ≡ rounds s (W M 64) t
-    → r ≡ roundsOver v (take (64 - t) (drop t K)) w 16 → r ≡ rounds s (W M 64) (t + 16)
-sixteen M w s t z le i e q =
-    rw (e, whole s (W M 64) t) at q
-    ∙ onward K (W M 64) _ w s t 16 (λ n h. part K t (64 - t) n (omega arith)) word
-    ∙ sym (whole s (W M 64) (t + 16))
+-- a round more: its word takes the place of its constant
+pub one-more : (M w : List ℕ) (t : ℕ) {v r : State} {x : ℕ} → t < 64 → x ≡ getD (W M 64) t 0 → r ≡ round v (getD w t 0) x
+    → RoundsFrom M t (t + 1) v w r (set w t x)
+unfolding rounds
+one-more M w t {v} {r} {x} l e p h i = record { variables = variables; size = simp length-set (i .size); word = word; constant = constant }
   where
-    word : (n : ℕ) → n < 16 → getD w n 0 ≡ getD (W M 64) (t + n) 0
-    word n h =
-        let f : (t + n) % 16 ≡ n = omega arith in
-        rw f at (i .word (t + n) (omega arith) (omega arith))
+    variables : r ≡ rounds h (W M 64) (t + 1)
+    variables = rw (add-one t) (p ∙ rw (i .variables, i .constant t (omega arith) l, e))
 
--- the round n, of constants k and words w
-abbrev next : List ℕ → List ℕ → State → ℕ → State
-next k w v n = round v (getD k n 0) (getD w n 0)
+    word : (n : ℕ) → n < t + 1 → getD (set w t x) n 0 ≡ getD (W M 64) n 0
+    word n g = go (decLt n t)
+      where
+        go : Dec (n < t) → getD (set w t x) n 0 ≡ getD (W M 64) n 0
+        go (yes q) = getD-set-other w t n x 0 (omega arith) ∙ i .word n q
+        go (no q) = let z : n ≡ t = omega arith in rw (z, getD-set-same w t x 0 (omega (arith, i .size)), e)
 
--- eight rounds, one after the other
-pub eight : (k w : List ℕ) (v₀ : State) {v₁ v₂ v₃ v₄ v₅ v₆ v₇ v₈ : State}
-    → v₁ ≡ next k w v₀ 0 → v₂ ≡ next k w v₁ 1 → v₃ ≡ next k w v₂ 2 → v₄ ≡ next k w v₃ 3 → v₅ ≡ next k w v₄ 4
-    → v₆ ≡ next k w v₅ 5 → v₇ ≡ next k w v₆ 6 → v₈ ≡ next k w v₇ 7 → v₈ ≡ roundsOver v₀ k w 8
-unfolding roundsOver
-eight k w v₀ e₁ e₂ e₃ e₄ e₅ e₆ e₇ e₈ = rw (e₈, e₇, e₆, e₅, e₄, e₃, e₂, e₁)
+    constant : (n : ℕ) → t + 1 ≤ n → n < 64 → getD (set w t x) n 0 ≡ getD K n 0
+    constant n g k = getD-set-other w t n x 0 (omega arith) ∙ i .constant n (omega arith) k
+
+module _ (M : List ℕ) (t : ℕ) where
+  -- a round after n rounds
+  and-one : (n : ℕ) {v u r : State} {w y x : List ℕ} → RoundsFrom M t (t + n) v w u y → RoundsFrom M (t + n) (t + n + 1) u y r x
+      → RoundsFrom M t (t + (n + 1)) v w r x
+  and-one n f g h i = let e : t + (n + 1) ≡ t + n + 1 = omega arith in rw e (g h (f h i))
+
+  -- eight rounds, one after the other
+  pub eight : {v₀ v₁ v₂ v₃ v₄ v₅ v₆ v₇ v₈ : State} {w₀ w₁ w₂ w₃ w₄ w₅ w₆ w₇ w₈ : List ℕ}
+      → RoundsFrom M t (t + 1) v₀ w₀ v₁ w₁ → RoundsFrom M (t + 1) (t + 1 + 1) v₁ w₁ v₂ w₂
+      → RoundsFrom M (t + 2) (t + 2 + 1) v₂ w₂ v₃ w₃ → RoundsFrom M (t + 3) (t + 3 + 1) v₃ w₃ v₄ w₄
+      → RoundsFrom M (t + 4) (t + 4 + 1) v₄ w₄ v₅ w₅ → RoundsFrom M (t + 5) (t + 5 + 1) v₅ w₅ v₆ w₆
+      → RoundsFrom M (t + 6) (t + 6 + 1) v₆ w₆ v₇ w₇ → RoundsFrom M (t + 7) (t + 7 + 1) v₇ w₇ v₈ w₈ → RoundsFrom M t (t + 8) v₀ w₀ v₈ w₈
+  eight r₀ r₁ r₂ r₃ r₄ r₅ r₆ r₇ = and-one 7 (and-one 6 (and-one 5 (and-one 4 (and-one 3 (and-one 2 (and-one 1 r₀ r₁) r₂) r₃) r₄) r₅) r₆) r₇

@@ -1,87 +1,61 @@
--- The message schedule: its words by FIPS 180-4's rule, and a window of sixteen of them that moves along it.
-use mathlib.Core.Path.{_≡_, refl, sym, ap, _∙_}
-use mathlib.Core.List.{List, []}
-use Prim.Native.Nat.{ℕ, zero, suc, _+_, _-_, _%_, _<_, _≤_}
+-- The words of the message schedule: the block's, and those that are made of the sixteen before them.
+use mathlib.Core.Path.{_≡_, refl, sym, _∙_}
+use mathlib.Core.List.{List, [], _∷_, _++_}
+use Prim.Native.Nat.{ℕ, zero, suc, _+_, _-_, _*_, _<_, _≤_}
 use native.Mathlib.Decide.{decLt}
-use native.Mathlib.Nat.{add-zero, add-suc}
 use native.Mathlib.Omega.{arith}
 use borrow.Author.Tests.{lt-ltb, le-ltb}
-use lib.ListN.{length, getD, take, set, length-append, length-set}
-use lib.Seq.{getD-take, take-all, take-append-le, getD-at, getD-set-same, getD-set-other}
-use Rattle.sampling.specs.Fips180.{_⊞_, σ₀, σ₁, W, nextW}
-use Rattle.sampling.specs.inner.HashInner.{Window, wordAfter}
+use lib.ListN.{length, getD, length-append, List·getD-append}
+use lib.Seq.{getD-at}
+use Rattle.sampling.specs.Fips180.{_⊞_, σ₀, σ₁, word, words, block, W, nextW}
+use Rattle.sampling.specs.laws.WordLaws.{sum-of-four}
 
-length-W : (M : List ℕ) (n : ℕ) → length (W M n) ≡ n
+-- ---- a list that grows at its end: the nth step adds x n
+
+module _ (list : ℕ → List ℕ) (x : ℕ → ℕ) (none : list 0 ≡ []) (more : (n : ℕ) → list (suc n) ≡ list n ++ (x n ∷ [])) where
+  grown-length : (n : ℕ) → length (list n) ≡ n
+  grown-length zero = rw none
+  grown-length (suc n) = rw (more n) (simp (length-append, grown-length n) (omega arith))
+
+  grown-at : (n k : ℕ) → k < n → getD (list n) k 0 ≡ x k
+  grown-at zero k h = absurd (omega arith)
+  grown-at (suc n) k h = rw (more n) (go (decLt k n) (grown-at n k))
+    where
+      go : Dec (k < n) → (k < n → getD (list n) k 0 ≡ x k) → getD (list n ++ (x n ∷ [])) k 0 ≡ x k
+      go (yes l) before = List·getD-append (list n) (x n ∷ []) 0 k (omega (arith, grown-length n)) ∙ before l
+      go (no l) before = let e : k ≡ n = omega arith in rw e (getD-at (list n) (x n) [] 0 n (grown-length n))
+
+W-at : (M : List ℕ) (n t : ℕ) → t < n → getD (W M n) t 0 ≡ nextW M (W M t) t
 unfolding W
-length-W M zero = refl
-length-W M (suc n) = simp (length-append, length-W M n) (omega arith)
+W-at M = grown-at (W M) (λ t. nextW M (W M t) t) refl (λ n. refl)
 
-prefix : (M : List ℕ) (t n : ℕ) → take t (W M (t + n)) ≡ W M t
-unfolding W
-prefix M t zero = rw add-zero (take-all t (W M t) (omega (arith, length-W M t)))
-prefix M t (suc n) = rw add-suc (take-append-le t (W M (t + n)) _ (omega (arith, length-W M (t + n))) ∙ prefix M t n)
+words-at : (m : List ℕ) (o n t : ℕ) → t < n → getD (words m o n) t 0 ≡ word m (o + 4 * t)
+unfolding words
+words-at m o = grown-at (words m o) (λ t. word m (o + 4 * t)) refl (λ n. refl)
 
--- a word of the whole schedule is the same word of the schedule so far
-seen : (M : List ℕ) (t k : ℕ) → t ≤ 64 → k < t → getD (W M t) k 0 ≡ getD (W M 64) k 0
-seen M t k h p =
-    let s : t + (64 - t) ≡ 64 = omega arith in
-    let q : take t (W M 64) ≡ W M t = rw s at (prefix M t (64 - t)) in
-    ap (λ (ws : List ℕ). getD ws k 0) (sym q) ∙ getD-take t (W M 64) k 0 p
+-- ---- before 16: the block's own words
 
-rule : (M : List ℕ) (n : ℕ) → n < 64 → getD (W M 64) n 0 ≡ nextW M (W M n) n
-unfolding W
-rule M n h = sym (seen M (suc n) n (omega arith) (omega arith)) ∙ getD-at (W M n) _ [] 0 n (length-W M n)
-
--- the rule's two cases
-direct : (M ws : List ℕ) (n : ℕ) → n < 16 → getD M n 0 ≡ nextW M ws n
+pub block-word : (m : List ℕ) (o t : ℕ) {x : ℕ} → t < 16 → x ≡ word m (o + 4 * t) → x ≡ getD (W (block m o) 64) t 0
 unfolding nextW
-direct M ws n h = rw (lt-ltb n 16 h)
+block-word m o t h e = e ∙ sym (W-at (block m o) 64 t (omega arith) ∙ rw (lt-ltb t 16 h) (words-at m o 16 t h))
 
-mixed : (M ws : List ℕ) (n : ℕ) → 16 ≤ n
-    → σ₁ (getD ws (n - 2) 0) ⊞ getD ws (n - 7) 0 ⊞ σ₀ (getD ws (n - 15) 0) ⊞ getD ws (n - 16) 0 ≡ nextW M ws n
+-- ---- from 16 on
+
+-- the rule's second case, its sum in another order
+abbrev made : List ℕ → ℕ → ℕ
+made w t = getD w (t - 16) 0 ⊞ getD w (t - 7) 0 ⊞ σ₀ (getD w (t - 15) 0) ⊞ σ₁ (getD w (t - 2) 0)
+
+pub nextW-made : (M w : List ℕ) (t : ℕ) → 16 ≤ t → nextW M w t ≡ made w t
 unfolding nextW
-mixed M ws n h = rw (le-ltb n 16 h)
+nextW-made M w t g = rw (le-ltb t 16 g) (sum-of-four (σ₁ (getD w (t - 2) 0)) (getD w (t - 7) 0) (σ₀ (getD w (t - 15) 0)) (getD w (t - 16) 0))
 
--- the block itself is the first window
-pub first-window : (M : List ℕ) → length M ≡ 16 → Window M 0 M
-first-window M l = record { size = l; word = λ n a b. early n b }
+-- it asks for the words before t alone
+pub made-word : (M w : List ℕ) (t : ℕ) {x : ℕ} → 16 ≤ t → t < 64 → ((n : ℕ) → n < t → getD w n 0 ≡ getD (W M 64) n 0) → x ≡ nextW M w t
+    → x ≡ getD (W M 64) t 0
+made-word M w t g h same e = e ∙ nextW-made M w t g ∙ alike ∙ sym (W-at M 64 t h ∙ nextW-made M (W M t) t g)
   where
-    early : (n : ℕ) → n < 16 → getD M (n % 16) 0 ≡ getD (W M 64) n 0
-    early n h =
-        let e : n % 16 ≡ n = omega arith in
-        rw e (direct M (W M n) n h ∙ sym (rule M n (omega arith)))
+    read : (n : ℕ) → n < t → getD w n 0 ≡ getD (W M t) n 0
+    read n l = same n l ∙ W-at M 64 n (omega arith) ∙ sym (W-at M t n l)
 
-wrap : (t k : ℕ) → (t % 16 + k) % 16 ≡ (t + k) % 16
-wrap t k = omega arith
-
--- one word more, in the place j of the one sixteen words before it
-pub next-window : (M w : List ℕ) (t j : ℕ) {y : ℕ} → t < 48 → j ≡ t % 16 → Window M t w → y ≡ wordAfter w j → Window M (t + 1) (set w j y)
-next-window M w t j {y} h J i p = record { size = simp length-set (i .size); word = word }
-  where
-    read : (k n : ℕ) → t ≤ n → n < t + 16 → k ≡ n → getD w (n % 16) 0 ≡ getD (W M (t + 16)) k 0
-    read k n a b z = rw z (i .word n a b ∙ sym (seen M (t + 16) n (omega arith) (omega arith)))
-
-    made : y ≡ getD (W M 64) (t + 16) 0
-    made =
-        p
-        ∙ rw (
-          J,
-          wrap t 1,
-          wrap t 9,
-          wrap t 14,
-          read (t + 16 - 2) (t + 14) (omega arith) (omega arith) (omega arith),
-          read (t + 16 - 7) (t + 9) (omega arith) (omega arith) (omega arith),
-          read (t + 16 - 15) (t + 1) (omega arith) (omega arith) (omega arith),
-          read (t + 16 - 16) t (omega arith) (omega arith) (omega arith),
-        )
-        (mixed M (W M (t + 16)) (t + 16) (omega arith) ∙ sym (rule M (t + 16) (omega arith)))
-
-    word : (n : ℕ) → t + 1 ≤ n → n < t + 1 + 16 → getD (set w j y) (n % 16) 0 ≡ getD (W M 64) n 0
-    word n a b = go (decLt n (t + 16))
-      where
-        go : Dec (n < t + 16) → getD (set w j y) (n % 16) 0 ≡ getD (W M 64) n 0
-        go (yes q) = getD-set-other w j (n % 16) y 0 (omega arith) ∙ i .word n (omega arith) q
-        go (no q) =
-            let z : n ≡ t + 16 = omega arith in
-            let f : (t + 16) % 16 ≡ j = omega arith in
-            rw (z, f, getD-set-same w j y 0 (omega (arith, i .size)), made)
+    alike : made w t ≡ made (W M t) t
+    alike = rw (read (t - 16) (omega arith), read (t - 7) (omega arith), read (t - 15) (omega arith), read (t - 2) (omega arith))

@@ -1,12 +1,15 @@
 // SHA-256 of FIPS 180-4, over byte strings that are absorbed one after the other.
 ghost use mathlib.Core.Path.{_≡_};
 ghost use mathlib.Core.List.{List, _++_};
-ghost use Prim.Native.Nat.{ℕ, _+_, _*_, _%_, _^_, _<_, _≤_};
-ghost use lib.ListN.{length, getD};
+ghost use Prim.Native.Nat.{ℕ, _+_, _-_, _*_, _/_, _%_, _^_, _<_, _≤_};
+ghost use lib.ListN.{length, take, getD, set};
 ghost use lib.Seq.{sets};
-ghost use Rattle.sampling.specs.Fips180.{_⊞_, Ch, Maj, Σ₀, Σ₁, σ₀, σ₁, W, round, rounds, plus, compressed, word, block, zeros, digestOf};
+ghost use Rattle.sampling.specs.BigEndian.{bytesOf};
+ghost use Rattle.sampling.specs.Fips180.{_⊞_, ROTR, Ch, Maj, Σ₀, Σ₁, σ₀, σ₁};
+ghost use Rattle.sampling.specs.Fips180.{W, nextW, round, rounds, plus, compressed, word, block, H₀, padding, padded, digestOf};
 ghost use Rattle.sampling.specs.Hash.{hashed, hashedNumber};
-ghost use Rattle.sampling.specs.inner.HashInner.{Window, wordAfter, roundsOver};
+ghost use Rattle.sampling.specs.inner.HashInner.{RoundsFrom};
+ghost use Rattle.sampling.specs.inner.LastBlocksInner.{inOnePiece, inTwoBlocks, hashValueFrom};
 ghost use Rattle.sampling.specs.Hasher.{newHasher, absorbBytes, tooLong, absorbed, finished};
 use crate::big_endian;
 
@@ -45,40 +48,56 @@ fn add(x: u32, y: u32) -> u32
     std::num::wrapping_add_u32(x, y)
 }
 
+// ROTR^n(x) (3.2).
+fn rotr(x: u32, n: u32) -> u32
+    requires { ⌜ (0 < n) × (n < 32) ⌝ }
+    ensures { λ r. ⌜ r ≡ ROTR n x ⌝ }
+{
+    (x >> n) | (x << (32 - n))
+}
+
+// The functions below take fewer operations than their definitions: WordLaws has why they are the same.
+
+// x says of each bit whether it is y's or z's.
 fn ch(x: u32, y: u32, z: u32) -> u32
     ensures { λ r. ⌜ r ≡ Ch x y z ⌝ }
 {
-    (x & y) ^ (!x & z)
+    ((y ^ z) & x) ^ z
 }
 
+// y, but where x and z both differ from it. y ^ z is x ^ y of the round before, which the compiler keeps.
 fn maj(x: u32, y: u32, z: u32) -> u32
     ensures { λ r. ⌜ r ≡ Maj x y z ⌝ }
 {
-    (x & y) ^ (x & z) ^ (y & z)
+    ((x ^ y) & (y ^ z)) ^ y
 }
 
+// 11 + 2 = 13 and 9 + 11 + 2 = 22.
 fn big_sigma0(x: u32) -> u32
     ensures { λ r. ⌜ r ≡ Σ₀ x ⌝ }
 {
-    ((x >> 2) | (x << 30)) ^ ((x >> 13) | (x << 19)) ^ ((x >> 22) | (x << 10))
+    rotr(rotr(rotr(x, 9) ^ x, 11) ^ x, 2)
 }
 
+// 5 + 6 = 11 and 14 + 5 + 6 = 25.
 fn big_sigma1(x: u32) -> u32
     ensures { λ r. ⌜ r ≡ Σ₁ x ⌝ }
 {
-    ((x >> 6) | (x << 26)) ^ ((x >> 11) | (x << 21)) ^ ((x >> 25) | (x << 7))
+    rotr(rotr(rotr(x, 14) ^ x, 5) ^ x, 6)
 }
 
+// 11 + 7 = 18.
 fn small_sigma0(x: u32) -> u32
     ensures { λ r. ⌜ r ≡ σ₀ x ⌝ }
 {
-    ((x >> 7) | (x << 25)) ^ ((x >> 18) | (x << 14)) ^ (x >> 3)
+    rotr(rotr(x, 11) ^ x, 7) ^ (x >> 3)
 }
 
+// 2 + 17 = 19.
 fn small_sigma1(x: u32) -> u32
     ensures { λ r. ⌜ r ≡ σ₁ x ⌝ }
 {
-    ((x >> 17) | (x << 15)) ^ ((x >> 19) | (x << 13)) ^ (x >> 10)
+    rotr(rotr(x, 2) ^ x, 17) ^ (x >> 10)
 }
 
 // ---- The hash computation (6.2.2)
@@ -151,11 +170,11 @@ const K256: [u32; 64] = [
     0xc67178f2,
 ];
 
-// The working variables after a round.
+// The working variables after a round. The sum t1 begins with what is known first.
 fn one_round(v: State, k: u32, w: u32) -> State
     ensures { λ r. ⌜ r ≡ round v k w ⌝ }
 {
-    let t1 = add(add(add(add(v.h, big_sigma1(v.e)), ch(v.e, v.f, v.g)), k), w);
+    let t1 = add(add(add(add(v.h, w), k), ch(v.e, v.f, v.g)), big_sigma1(v.e));
     let t2 = add(big_sigma0(v.a), maj(v.a, v.b, v.c));
     State {
         a: add(t1, t2),
@@ -169,81 +188,109 @@ fn one_round(v: State, k: u32, w: u32) -> State
     }
 }
 
-// The round of the constant and the word at t.
-fn round_at(v: State, k: &[u32], w: &[u32], t: usize) -> State
-    requires { ⌜ (t < length (now k)) × (t < length (now w)) ⌝ }
-    ensures { λ r. ⌜ r ≡ round v (getD (now (k .entry)) t 0) (getD (now (w .entry)) t 0) ⌝ }
+// The round t with the word x, which takes the place of the constant: w has the schedule's words before t, the constants from t on.
+fn step(v: State, w: &mut [u32; 64], t: usize, x: u32) -> State
+    requires { ⌜ t < 64 ⌝ }
+    ensures { λ r. ⌜ ((M : List ℕ) → x ≡ getD (W M 64) t 0 → RoundsFrom M t (t + 1) v (now (w .entry)) r (now (w .exit))) ⌝ }
 {
-    one_round(v, k[t], w[t])
+    let k = w[t];
+    w[t] = x;
+    one_round(v, k, x)
+}
+
+// A round whose word is the block's, which starts at o.
+fn first_step(v: State, w: &mut [u32; 64], s: &[u8], o: usize, t: usize) -> State
+    requires { ⌜ (t < 16) × (o + 64 ≤ length (now s)) ⌝ }
+    ensures { λ r. ⌜ RoundsFrom (block (now (s .entry)) o) t (t + 1) v (now (w .entry)) r (now (w .exit)) ⌝ }
+{
+    step(v, w, t, word_at(s, o + 4 * t))
 }
 
 // Eight rounds in a row, after which each variable stands in its own place again: the compiler moves none.
-fn eight_rounds(v: State, k: &[u32], w: &[u32]) -> State
-    requires { ⌜ (8 ≤ length (now k)) × (8 ≤ length (now w)) ⌝ }
-    ensures { λ r. ⌜ r ≡ roundsOver v (now (k .entry)) (now (w .entry)) 8 ⌝ }
+fn first_steps(v: State, w: &mut [u32; 64], s: &[u8], o: usize, t: usize) -> State
+    requires { ⌜ (t + 8 ≤ 16) × (o + 64 ≤ length (now s)) ⌝ }
+    ensures { λ r. ⌜ RoundsFrom (block (now (s .entry)) o) t (t + 8) v (now (w .entry)) r (now (w .exit)) ⌝ }
 {
-    let v1 = round_at(v, k, w, 0);
-    let v2 = round_at(v1, k, w, 1);
-    let v3 = round_at(v2, k, w, 2);
-    let v4 = round_at(v3, k, w, 3);
-    let v5 = round_at(v4, k, w, 4);
-    let v6 = round_at(v5, k, w, 5);
-    let v7 = round_at(v6, k, w, 6);
-    round_at(v7, k, w, 7)
+    let v1 = first_step(v, w, s, o, t);
+    let v2 = first_step(v1, w, s, o, t + 1);
+    let v3 = first_step(v2, w, s, o, t + 2);
+    let v4 = first_step(v3, w, s, o, t + 3);
+    let v5 = first_step(v4, w, s, o, t + 4);
+    let v6 = first_step(v5, w, s, o, t + 5);
+    let v7 = first_step(v6, w, s, o, t + 6);
+    first_step(v7, w, s, o, t + 7)
 }
 
-// Sixteen rounds: as many as a window has words.
-fn sixteen_rounds(v: State, k: &[u32], w: &[u32]) -> State
-    requires { ⌜ (16 ≤ length (now k)) × (16 ≤ length (now w)) ⌝ }
-    ensures { λ r. ⌜ r ≡ roundsOver v (now (k .entry)) (now (w .entry)) 16 ⌝ }
+// The rounds before 16.
+fn first_rounds(v: State, w: &mut [u32; 64], s: &[u8], o: usize) -> State
+    requires { ⌜ o + 64 ≤ length (now s) ⌝ }
+    ensures { λ r. ⌜ RoundsFrom (block (now (s .entry)) o) 0 16 v (now (w .entry)) r (now (w .exit)) ⌝ }
 {
-    eight_rounds(eight_rounds(v, k, w), &k[8..], &w[8..])
+    let mut u = v;
+    let mut t = 0;
+    while t < 16 {
+        u = first_steps(u, w, s, o, t);
+        t += 8;
+    }
+    u
 }
 
-// The word that takes the place of the one at j: that of sixteen words later.
-fn word_after(w: &[u32; 16], j: usize) -> u32
-    requires { ⌜ j < 16 ⌝ }
-    ensures { λ r. ⌜ r ≡ wordAfter (now (w .entry)) j ⌝ }
+// The word at t from the sixteen before it.
+fn next_word(w: &[u32; 64], t: usize) -> u32
+    requires { ⌜ (16 ≤ t) × (t < 64) ⌝ }
+    ensures { λ r. ⌜ ((M : List ℕ) → r ≡ nextW M (now (w .entry)) t) ⌝ }
 {
     add(
-        add(
-            add(small_sigma1(w[(j + 14) % 16]), w[(j + 9) % 16]),
-            small_sigma0(w[(j + 1) % 16]),
-        ),
-        w[j],
+        add(add(w[t - 16], w[t - 7]), small_sigma0(w[t - 15])),
+        small_sigma1(w[t - 2]),
     )
 }
 
-// The next sixteen words of the schedule in the place of sixteen. Two in a turn: the compiler then unrolls the loop.
-fn extend(words: [u32; 16]) -> [u32; 16]
-    ensures { λ r. ⌜ ((M : List ℕ) (t : ℕ) → t % 16 ≡ 0 → t + 32 ≤ 64 → Window M t words → Window M (t + 16) r) ⌝ }
+// A round whose word is made here, not ahead, so that its work fills the round's waits.
+fn later_step(v: State, w: &mut [u32; 64], t: usize) -> State
+    requires { ⌜ (16 ≤ t) × (t < 64) ⌝ }
+    ensures { λ r. ⌜ ((M : List ℕ) → RoundsFrom M t (t + 1) v (now (w .entry)) r (now (w .exit))) ⌝ }
 {
-    let mut w = words;
-    let mut j = 0;
-    while j < 16 {
-        w[j] = word_after(&w, j);
-        w[j + 1] = word_after(&w, j + 1);
-        j += 2;
-    }
-    w
+    step(v, w, t, next_word(w, t))
 }
 
-// All rounds over a block.
-fn all_rounds(s: State, m: [u32; 16]) -> State
-    ensures { λ r. ⌜ r ≡ rounds s (W m 64) 64 ⌝ }
+// Eight rounds in a row, as above.
+fn later_steps(v: State, w: &mut [u32; 64], t: usize) -> State
+    requires { ⌜ (16 ≤ t) × (t + 8 ≤ 64) ⌝ }
+    ensures { λ r. ⌜ ((M : List ℕ) → RoundsFrom M t (t + 8) v (now (w .entry)) r (now (w .exit))) ⌝ }
 {
-    // a copy: indexing the constant itself copies all of it at each index
-    let k = K256;
-    let mut w = m;
-    let mut v = s;
-    let mut t = 0;
-    while t < 48 {
-        v = sixteen_rounds(v, &k[t..], &w);
-        let next = extend(w);
-        w = next;
-        t += 16;
+    let v1 = later_step(v, w, t);
+    let v2 = later_step(v1, w, t + 1);
+    let v3 = later_step(v2, w, t + 2);
+    let v4 = later_step(v3, w, t + 3);
+    let v5 = later_step(v4, w, t + 4);
+    let v6 = later_step(v5, w, t + 5);
+    let v7 = later_step(v6, w, t + 6);
+    later_step(v7, w, t + 7)
+}
+
+// The rounds from 16 on.
+fn later_rounds(v: State, w: &mut [u32; 64]) -> State
+    ensures { λ r. ⌜ ((M : List ℕ) → RoundsFrom M 16 64 v (now (w .entry)) r (now (w .exit))) ⌝ }
+{
+    let mut u = v;
+    let mut t = 16;
+    while t < 64 {
+        u = later_steps(u, w, t);
+        t += 8;
     }
-    sixteen_rounds(v, &k[48..], &w)
+    u
+}
+
+// All rounds over the block at o. Eight in a row are called in one place each, and so inlined: the variables stay in registers. t is
+// no constant there: w stays in memory and isn't spilled word by word.
+fn all_rounds(h: State, s: &[u8], o: usize) -> State
+    requires { ⌜ o + 64 ≤ length (now s) ⌝ }
+    ensures { λ r. ⌜ r ≡ rounds h (W (block (now (s .entry)) o) 64) 64 ⌝ }
+{
+    let mut w = K256;
+    let v = first_rounds(h, &mut w, s, o);
+    later_rounds(v, &mut w)
 }
 
 fn sum(v: State, s: State) -> State
@@ -261,11 +308,12 @@ fn sum(v: State, s: State) -> State
     }
 }
 
-// The hash value after a block.
-fn compress(s: State, m: [u32; 16]) -> State
-    ensures { λ r. ⌜ r ≡ compressed s m ⌝ }
+// The hash value after the block at o, read in place.
+fn compress(h: State, s: &[u8], o: usize) -> State
+    requires { ⌜ o + 64 ≤ length (now s) ⌝ }
+    ensures { λ r. ⌜ r ≡ compressed h (block (now (s .entry)) o) ⌝ }
 {
-    sum(all_rounds(s, m), s)
+    sum(all_rounds(h, s, o), h)
 }
 
 // ---- Bytes and words (3.1)
@@ -283,20 +331,6 @@ fn wide(x: u32) -> u64
     ensures { λ r. ⌜ r ≡ x ⌝ }
 {
     x as u64
-}
-
-// The sixteen words of the block at o.
-fn block_at(s: &[u8], o: usize) -> [u32; 16]
-    requires { ⌜ o + 64 ≤ length (now s) ⌝ }
-    ensures { λ r. ⌜ r ≡ block (now (s .entry)) o ⌝ }
-{
-    let mut m = [0u32; 16];
-    let mut n = 0;
-    while n < 16 {
-        m[n] = word_at(s, o + 4 * n);
-        n += 1;
-    }
-    m
 }
 
 // The eight words in bytes, one after the other.
@@ -352,7 +386,7 @@ fn absorb_end(h: Hasher, s: &[u8]) -> Hasher
     let len = h.len;
     let old = h.block;
     let full = with_bytes(old, len % 64, s);
-    let next = compress(state, block_at(&full, 0));
+    let next = compress(state, &full, 0);
     let block = [0u8; 64];
     Hasher {
         state: next,
@@ -370,7 +404,7 @@ fn absorb_blocks(h: Hasher, s: &[u8]) -> Hasher
     let len = h.len;
     let mut o = 0;
     while o < s.len() {
-        state = compress(state, block_at(s, o));
+        state = compress(state, s, o);
         o += 64;
     }
     Hasher {
@@ -408,11 +442,117 @@ fn absorb_all(h: Hasher, s: &[u8]) -> Hasher
     absorb_aligned(absorb_end(h, &s[..left]), &s[left..])
 }
 
-// How many bytes of zeros the padding of n bytes has (5.1.1).
-fn zeros_of(n: usize) -> usize
-    ensures { λ r. ⌜ (r ≡ zeros n) × (r < 64) ⌝ }
+// ---- The end of a message
+
+// Where the length in bits stands behind the last `filled` bytes: at the end of the block that they are in, or, where its eight
+// bytes and the bit 1 don't fit there any more, of the next.
+fn length_at(filled: usize) -> usize
+    requires { ⌜ filled ≤ 119 ⌝ }
+    ensures { λ r. ⌜ r ≡ (filled + 72) / 64 * 64 - 8 ⌝ }
 {
-    (119 - n % 64) % 64
+    if 56 <= filled {
+        return 120;
+    }
+    56
+}
+
+// Two blocks with s in their bytes from `at` on. By value: the compiler then sees that s doesn't overlap them, and the copy is a
+// memcpy.
+fn with_string(m: [u8; 128], at: usize, s: &[u8]) -> [u8; 128]
+    requires { ⌜ at + length (now s) ≤ 128 ⌝ }
+    ensures { λ r. ⌜ r ≡ sets m at (now (s .entry)) ⌝ }
+{
+    let mut out = m;
+    bytes::copy(s, &mut out[at..]);
+    out
+}
+
+// Two blocks with the padding (5.1.1) of a message of len bytes behind the last `filled` of them, where zeros stand.
+fn pad(m: [u8; 128], filled: usize, len: usize) -> [u8; 128]
+    requires { ⌜ (filled ≤ 119) × (len ≤ 2 ^ 29) ⌝ }
+    ensures { λ r. ⌜ r ≡ sets (set m filled 128) ((filled + 72) / 64 * 64 - 8) (bytesOf 8 (8 * len)) ⌝ }
+{
+    let mut out = m;
+    out[filled] = 0x80;
+    let bits = big_endian::eight_bytes(8 * (len as u64));
+    with_string(out, length_at(filled), &bits)
+}
+
+// The first `filled` bytes of a block, the last of a message of len bytes, padded. What the block holds behind them isn't read:
+// in a hasher made by hand it may be anything.
+fn tail_of(block: [u8; 64], filled: usize, len: usize) -> [u8; 128]
+    requires { ⌜ (filled ≡ len % 64) × (len ≤ 2 ^ 29) ⌝ }
+    ensures { λ r. ⌜ r ≡ inTwoBlocks (take filled block ++ padding len) ⌝ }
+{
+    pad(with_string([0u8; 128], 0, &block[..filled]), filled, len)
+}
+
+// Four strings joined, padded.
+fn joined(a: &[u8], b: &[u8], c: &[u8], d: &[u8]) -> [u8; 128]
+    requires { ⌜ length (now a) + length (now b) + length (now c) + length (now d) ≤ 119 ⌝ }
+    ensures { λ r. ⌜ r ≡ inTwoBlocks (padded (now (a .entry) ++ (now (b .entry) ++ (now (c .entry) ++ now (d .entry))))) ⌝ }
+{
+    let i = a.len();
+    let j = i + b.len();
+    let k = j + c.len();
+    let n = k + d.len();
+    let one = with_string([0u8; 128], 0, a);
+    let two = with_string(one, i, b);
+    let three = with_string(two, j, c);
+    pad(with_string(three, k, d), n, n)
+}
+
+// The digest after the last `filled` bytes of a message, padded: one block, or two.
+fn last_blocks(h: State, m: &[u8; 128], filled: usize) -> Hashed
+    requires { ⌜ filled ≤ 119 ⌝ }
+    ensures { λ r. ⌜ hashedNumber r ≡ (0, digestOf (hashValueFrom h (now (m .entry)) ((filled + 72) / 64))) ⌝ }
+{
+    let mut s = compress(h, m, 0);
+    if 56 <= filled {
+        s = compress(s, m, 64);
+    }
+    Hashed {
+        number: 0,
+        digest: digest_of(s),
+    }
+}
+
+// Whether strings of these lengths are joined in one piece: each is shorter than a block, so that none lies whole in one of them, and
+// with the padding they are two blocks at most.
+fn fits(a: usize, b: usize, c: usize, d: usize) -> bool
+    ensures { λ r. ⌜ r ≡ inOnePiece a b c d ⌝ }
+{
+    if 64 <= a {
+        return false;
+    }
+    if 64 <= b {
+        return false;
+    }
+    if 64 <= c {
+        return false;
+    }
+    if 64 <= d {
+        return false;
+    }
+    a + b + c + d <= 119
+}
+
+// ---- The calls
+
+// The initial hash value (5.3.3).
+fn start() -> State
+    ensures { λ r. ⌜ r ≡ H₀ ⌝ }
+{
+    State {
+        a: 0x6a09e667,
+        b: 0xbb67ae85,
+        c: 0x3c6ef372,
+        d: 0xa54ff53a,
+        e: 0x510e527f,
+        f: 0x9b05688c,
+        g: 0x1f83d9ab,
+        h: 0x5be0cd19,
+    }
 }
 
 // A hasher past the limit. It is the same whatever was absorbed, so that two strings leave what the two joined leave.
@@ -435,16 +575,7 @@ impl Hasher {
         ensures { λ r. ⌜ r ≡ newHasher ⌝ }
     {
         Hasher {
-            state: State {
-                a: 0x6a09e667,
-                b: 0xbb67ae85,
-                c: 0x3c6ef372,
-                d: 0xa54ff53a,
-                e: 0x510e527f,
-                f: 0x9b05688c,
-                g: 0x1f83d9ab,
-                h: 0x5be0cd19,
-            },
+            state: start(),
             block: [0u8; 64],
             len: 0,
         }
@@ -461,8 +592,7 @@ impl Hasher {
         absorb_all(self, s)
     }
 
-    // 0 with the digest of all that was absorbed, or 9 with zeros. The padding (5.1.1) is absorbed like any string: the bit 1
-    // and zeros, then the length in bits.
+    // 0 with the digest of all that was absorbed, or 9 with zeros.
     pub fn finish(self) -> Hashed
         ensures { λ r. ⌜ hashedNumber r ≡ finished self ⌝ }
     {
@@ -473,22 +603,30 @@ impl Hasher {
                 digest: [0u8; 32],
             };
         }
-        let mut start = [0u8; 64];
-        start[0] = 0x80;
-        let k = zeros_of(len) + 1;
-        let bits = big_endian::eight_bytes(8 * (len as u64));
-        let h = absorb_all(absorb_all(self, &start[..k]), &bits);
-        Hashed {
-            number: 0,
-            digest: digest_of(h.state),
-        }
+        let state = self.state;
+        let block = self.block;
+        let filled = len % 64;
+        let m = tail_of(block, filled, len);
+        last_blocks(state, &m, filled)
     }
+}
+
+// SHA-256 of four strings that make two blocks at most, joined in one piece.
+fn hash_short(a: &[u8], b: &[u8], c: &[u8], d: &[u8]) -> Hashed
+    requires { ⌜ length (now a) + length (now b) + length (now c) + length (now d) ≤ 119 ⌝ }
+    ensures { λ r. ⌜ hashedNumber r ≡ hashed (now (a .entry) ++ (now (b .entry) ++ (now (c .entry) ++ now (d .entry)))) ⌝ }
+{
+    let m = joined(a, b, c, d);
+    last_blocks(start(), &m, a.len() + b.len() + c.len() + d.len())
 }
 
 // SHA-256 of four strings joined: 0 with the digest, or 9 with zeros where they are over 2^29 bytes joined.
 pub fn sha256(a: &[u8], b: &[u8], c: &[u8], d: &[u8]) -> Hashed
     ensures { λ r. ⌜ hashedNumber r ≡ hashed (now (a .entry) ++ (now (b .entry) ++ (now (c .entry) ++ now (d .entry)))) ⌝ }
 {
+    if fits(a.len(), b.len(), c.len(), d.len()) {
+        return hash_short(a, b, c, d);
+    }
     Hasher::new()
         .absorb(a)
         .absorb(b)

@@ -4,8 +4,15 @@ use super::{fence::Fenced, hex, Answered, Checked, Run};
 use crate::{ffi, ffi::Lent, rng::Rng};
 use sha2::{Digest, Sha256};
 
-/// Up to this length every length is tried: past three blocks and each place where the padding needs one block more.
-const SHORT: usize = 260;
+/// Up to this length every length is tried: past four blocks and each place where the padding needs one block more.
+const SHORT: usize = 300;
+
+/// Lengths on both sides of each place where the hash goes another way: the padding ends in the same block or the next, a string has a whole
+/// block or none, four strings are joined in one piece or not.
+const EDGES: [usize; 8] = [0, 1, 55, 56, 63, 64, 119, 120];
+
+/// The bytes of a block.
+const BLOCK: usize = 64;
 
 pub fn run(run: &mut Run, cases: u64) -> Checked {
     for len in 0..=SHORT {
@@ -24,10 +31,44 @@ pub fn run(run: &mut Run, cases: u64) -> Checked {
             check(&mut run.rng, strings)?;
             run.count();
         }
+        at_edges(run, bytes)?;
     }
+    at_each_place(run)?;
     for _ in 0..cases {
         check_any(&mut run.rng)?;
         run.count();
+    }
+    Ok(())
+}
+
+/// Every cut in which three of the four strings have a length of `EDGES`, and the other one has the rest.
+fn at_edges(run: &mut Run, message: &[u8]) -> Checked {
+    for a in EDGES {
+        for b in EDGES {
+            for c in EDGES {
+                let Some(rest) = message.len().checked_sub(a + b + c) else { continue };
+                for lens in [[rest, a, b, c], [a, rest, b, c], [a, b, rest, c], [a, b, c, rest]] {
+                    check(&mut run.rng, parts(message, lens))?;
+                    run.count();
+                }
+            }
+        }
+    }
+    Ok(())
+}
+
+/// A string of 1 to 17 blocks that begins at every place of a block, behind one of up to two, and ends at every place.
+fn at_each_place(run: &mut Run) -> Checked {
+    for before in 0..=2 * BLOCK {
+        for end in 0..BLOCK {
+            let behind = [run.rng.below(80) as usize, run.rng.below(80) as usize];
+            let long = BLOCK * (1 + run.rng.below(16) as usize) + end;
+            let lens = [before, long, behind[0], behind[1]];
+            let len = lens.iter().sum();
+            let room = message(&mut run.rng, len);
+            check(&mut run.rng, parts(&room[room.len() - len..], lens))?;
+            run.count();
+        }
     }
     Ok(())
 }
@@ -111,6 +152,16 @@ fn message(rng: &mut Rng, len: usize) -> Vec<u8> {
     room
 }
 
+/// The message cut into strings of these lengths, which are its length in all.
+fn parts(message: &[u8], lens: [usize; 4]) -> [Lent<'_>; 4] {
+    let mut left = message;
+    lens.map(|len| {
+        let (string, more) = left.split_at(len);
+        left = more;
+        Some(string)
+    })
+}
+
 /// The message cut into four: anywhere, at its ends (so that strings are empty), or where a block ends.
 fn cut<'a>(rng: &mut Rng, message: &'a [u8]) -> [Lent<'a>; 4] {
     let len = message.len();
@@ -118,7 +169,7 @@ fn cut<'a>(rng: &mut Rng, message: &'a [u8]) -> [Lent<'a>; 4] {
         let anywhere = rng.below(len as u64 + 1) as usize;
         match rng.below(4) {
             0 => 0,
-            1 => anywhere / 64 * 64,
+            1 => anywhere / BLOCK * BLOCK,
             2 if rng.below(2) == 0 => len,
             _ => anywhere,
         }

@@ -1,14 +1,16 @@
 -- Laws of the hash's definitions. A caller that cites these opens none of them.
 use mathlib.Core.Path.{_≡_, refl, _∙_}
-use mathlib.Core.List.{List, [], _∷_}
-use Prim.Native.Nat.{ℕ, _+_, _*_, _%_, _^_, _≤_, _<_}
+use mathlib.Core.List.{List, [], _∷_, _++_}
+use Prim.Native.Nat.{ℕ, zero, suc, _+_, _*_, _/_, _%_, _^_, _≤_, _<_}
 use native.Mathlib.Omega.{arith}
 use borrow.Author.Tests.{le-leb, lt-leb}
-use lib.ListN.{length, getD, replicate, length-append, length-replicate}
+use lib.ListN.{length, getD, replicate, length-append, length-replicate, List·getD-append}
 use Rattle.sampling.specs.BigEndian.{bytesOf}
 use Rattle.sampling.specs.laws.BigEndianLaws.{length-bytesOf, All256, all256-at, all256-bytesOf, all256-append}
-use Rattle.sampling.specs.Fips180.{zeros, padding, padded, joined, digestOf, sha256}
+use Rattle.sampling.specs.Fips180.{zeros, padding, padded, words, block, H₀, compressed, hashValue, joined, digestOf, sha256}
 use Rattle.sampling.specs.Hash.{hashed}
+use Rattle.sampling.specs.inner.LastBlocksInner.{hashValueFrom}
+use Rattle.sampling.specs.declared.sha256.State.{State}
 
 -- ---- 5.1.1: k, the number of zero bits, solves l + 1 + k ≡ 448 modulo 512, and no smaller k does
 
@@ -20,10 +22,51 @@ pub zeros-smallest : (n k : ℕ) → (8 * n + 1 + k) % 512 ≡ 448 → 7 + 8 * z
 unfolding zeros
 zeros-smallest n k e = omega arith
 
--- a padded message is whole blocks of 64 bytes (512 bits)
+-- with its padding a message is whole blocks of 64 bytes (512 bits), counted here behind the last block that it fills itself
+pub padding-size : (n : ℕ) → n % 64 + length (padding n) ≡ (n % 64 + 72) / 64 * 64
+unfolding padding zeros
+padding-size n = simp (length-append, length-replicate, length-bytesOf) (omega arith)
+
+pub length-padded : (m : List ℕ) → length (padded m) ≡ (length m + 72) / 64 * 64
+unfolding padded
+length-padded m = length-append m (padding (length m)) ∙ omega (arith, padding-size (length m))
+
 pub padded-whole : (m : List ℕ) → length (padded m) % 64 ≡ 0
-unfolding padded padding zeros
-padded-whole m = simp (length-append, length-replicate, length-bytesOf) (omega arith)
+padded-whole m = omega (arith, length-padded m)
+
+-- ---- 6.2.2: the hash value after some blocks
+
+-- from the initial hash value on
+pub from-first : (m : List ℕ) (k : ℕ) → hashValue m k ≡ hashValueFrom H₀ m k
+unfolding hashValue hashValueFrom
+from-first m zero = refl
+from-first m (suc k) = rw (from-first m k)
+
+pub one-block-from : (h : State) (m : List ℕ) → hashValueFrom h m 1 ≡ compressed h (block m 0)
+unfolding hashValueFrom
+one-block-from h m = refl
+
+pub two-blocks-from : (h : State) (m : List ℕ) → hashValueFrom h m 2 ≡ compressed (compressed h (block m 0)) (block m 64)
+unfolding hashValueFrom
+two-blocks-from h m = refl
+
+-- bytes behind the blocks are not read
+words-append : (m z : List ℕ) (o n : ℕ) → o + 4 * n ≤ length m → words (m ++ z) o n ≡ words m o n
+unfolding words
+words-append m z o zero le = refl
+words-append m z o (suc n) le =
+    rw (
+      words-append m z o n (omega arith),
+      List·getD-append m z 0 (o + 4 * n) (omega arith),
+      List·getD-append m z 0 (o + 4 * n + 1) (omega arith),
+      List·getD-append m z 0 (o + 4 * n + 2) (omega arith),
+      List·getD-append m z 0 (o + 4 * n + 3) (omega arith),
+    )
+
+pub blocks-append : (h : State) (m z : List ℕ) (k : ℕ) → 64 * k ≤ length m → hashValueFrom h (m ++ z) k ≡ hashValueFrom h m k
+unfolding hashValueFrom
+blocks-append h m z zero le = refl
+blocks-append h m z (suc k) le = rw (blocks-append h m z k (omega arith), words-append m z (64 * k) 16 (omega arith))
 
 -- ---- 6.2: a digest is 32 bytes, each below 256
 
@@ -50,6 +93,12 @@ sha256-bytes m i = all256-at _ (joined-bytes _) i
 pub hashed-within : (m : List ℕ) → length m ≤ 2 ^ 29 → hashed m ≡ (0, sha256 m)
 unfolding hashed
 hashed-within m h = rw (le-leb (length m) (2 ^ 29) h)
+
+pub hashed-in-blocks : (m : List ℕ) → length m ≤ 2 ^ 29 → hashed m ≡ (0, digestOf (hashValueFrom H₀ (padded m) ((length m + 72) / 64)))
+unfolding sha256
+hashed-in-blocks m h =
+    let k : length (padded m) / 64 ≡ (length m + 72) / 64 = omega (arith, length-padded m) in
+    hashed-within m h ∙ rw (k, from-first (padded m) ((length m + 72) / 64))
 
 pub hashed-over : (m : List ℕ) → 2 ^ 29 < length m → hashed m ≡ (9, replicate 32 0)
 unfolding hashed

@@ -9,11 +9,12 @@ use native.Mathlib.Nat.{add-zero}
 use native.Mathlib.Omega.{arith}
 use borrow.Author.Tests.{eq-eqb, ne-eqb, le-leb, lt-leb}
 use lib.Dec.{eqb}
-use lib.ListN.{length, take, drop, getD, set, replicate, length-append, length-drop, length-set, drop-of-length-le}
+use lib.ListN.{length, take, drop, getD, set, replicate, length-append, length-drop, length-set, take-append-drop, drop-of-length-le}
 use lib.Seq.{sets, sets-eq, take-length, take-add, length-take-le, getD-take, getD-drop}
 use Rattle.sampling.specs.Fips180.{words, block, compressed, hashValue, padding, padded, digestOf, sha256}
 use Rattle.sampling.specs.Hash.{hashed}
-use Rattle.sampling.specs.laws.HashLaws.{padded-whole, hashed-within, hashed-over}
+use Rattle.sampling.specs.laws.HashLaws.{padding-size, padded-whole, from-first, hashed-within, hashed-over}
+use Rattle.sampling.specs.inner.LastBlocksInner.{hashValueFrom}
 use Rattle.sampling.specs.Hasher.{newHasher, absorbByte, absorbBytes, tooLong, absorbed, finished}
 use Rattle.sampling.specs.declared.sha256.Hasher.{Hasher}
 
@@ -122,6 +123,20 @@ module _ (h : Hasher) (s : List ℕ) (l : length (h .block) ≡ 64) (z : h .len 
       let e : length s - 64 + 64 ≡ length s = omega arith in
       rw (rw (e, take-length s) at (one-block (length s - 64) (omega arith) (omega arith)))
 
+  -- the hash value after the first k blocks of s
+  after-blocks : (k : ℕ) → 64 * k ≤ length s → absorbBytes h (take (64 * k) s) .state ≡ hashValueFrom (h .state) s k
+  unfolding absorbBytes hashValueFrom
+  after-blocks zero le = refl
+  after-blocks (suc k) le =
+      let e : 64 * suc k ≡ 64 * k + 64 = omega arith in
+      rw (e, one-block (64 * k) (omega arith) (omega arith), after-blocks k (omega arith))
+
+  -- and after all of them
+  pub all-blocks : length s % 64 ≡ 0 → absorbBytes h s .state ≡ hashValueFrom (h .state) s (length s / 64)
+  all-blocks y =
+      let e : 64 * (length s / 64) ≡ length s = omega arith in
+      rw (e, take-length s) at (after-blocks (length s / 64) (omega arith))
+
 -- ---- document 01's limit
 
 pub absorbed-within : (h : Hasher) (s : List ℕ) → h .len + length s ≤ 2 ^ 29 → absorbed h s ≡ absorbBytes h s
@@ -144,6 +159,36 @@ finished-over h lt = rw (lt-leb (h .len) (2 ^ 29) lt)
 tooLong-stays : (s : List ℕ) → absorbed tooLong s ≡ tooLong
 unfolding tooLong
 tooLong-stays s = absorbed-over tooLong s (omega arith)
+
+-- ---- the last blocks
+
+-- a hasher as it was where its block began
+abbrev atBlock : Hasher → Hasher
+atBlock h = record { state = h .state; block = h .block; len = h .len - h .len % 64 }
+
+-- the bytes that the block holds lead from there to the hasher again
+back-again : (h : Hasher) → length (h .block) ≡ 64 → absorbBytes (atBlock h) (take (h .len % 64) (h .block)) ≡ h
+back-again h l =
+    let n : ℕ = h .len % 64 in
+    let t : List ℕ = take n (h .block) in
+    let size : length t ≡ n = length-take-le n (h .block) (omega arith) in
+    let z : (h .len - n) % 64 ≡ 0 = omega arith in
+    let e : h .len - n + length t ≡ h .len = omega arith in
+    let read : 0 + length t ≡ n = omega arith in
+    let same : sets (h .block) 0 t ≡ h .block = sets-eq t (h .block) 0 (omega arith) ∙ rw read (take-append-drop n (h .block)) in
+    within-block (atBlock h) t (omega arith) ∙ rw (z, e, same)
+
+-- what is left of a message is whole blocks with its padding: the bytes of the block that is being filled come first
+pub finished-in-blocks : (h : Hasher) → length (h .block) ≡ 64 → h .len ≤ 2 ^ 29
+    → finished h ≡ (0, digestOf (hashValueFrom (h .state) (take (h .len % 64) (h .block) ++ padding (h .len)) ((h .len % 64 + 72) / 64)))
+finished-in-blocks h l le =
+    let t : List ℕ = take (h .len % 64) (h .block) in
+    let p : List ℕ = padding (h .len) in
+    let size : length t ≡ h .len % 64 = length-take-le (h .len % 64) (h .block) (omega arith) in
+    let whole : length (t ++ p) ≡ (h .len % 64 + 72) / 64 * 64 = length-append t p ∙ omega (arith, padding-size (h .len)) in
+    let k : length (t ++ p) / 64 ≡ (h .len % 64 + 72) / 64 = omega arith in
+    let again : absorbBytes h p ≡ absorbBytes (atBlock h) (t ++ p) = rw (absorbBytes-append (atBlock h) t p, back-again h l) in
+    finished-within h le ∙ rw (again, all-blocks (atBlock h) (t ++ p) l (omega arith) (omega arith), k)
 
 -- ---- for callers
 
@@ -168,22 +213,13 @@ absorbed-twice h a b = go (decLe (h .len + length a) (2 ^ 29)) (decLe (h .len + 
     go (yes p) (no q) = rw (absorbed-within h a p, absorbed-over (absorbBytes h a) b (omega (arith, n, c)), absorbed-over h (a ++ b) (omega arith))
     go (no p) _ = rw (absorbed-over h a (omega arith), absorbed-over h (a ++ b) (omega (arith, n)), tooLong-stays b)
 
--- the hash value after the first k blocks of a message
-after-blocks : (m : List ℕ) (k : ℕ) → 64 * k ≤ length m → absorbBytes newHasher (take (64 * k) m) .state ≡ hashValue m k
-unfolding newHasher absorbBytes hashValue
-after-blocks m zero le = refl
-after-blocks m (suc k) le =
-    let e : 64 * suc k ≡ 64 * k + 64 = omega arith in
-    rw (e, one-block newHasher m refl refl (64 * k) (omega arith) (omega arith), after-blocks m k (omega arith))
-
--- and after the message with its padding
+-- after the message with its padding
 after-padding : (m : List ℕ) (n : ℕ) → n ≡ length m
     → absorbBytes (absorbBytes newHasher m) (padding n) .state ≡ hashValue (padded m) (length (padded m) / 64)
-unfolding padded
+unfolding padded newHasher
 after-padding m n p =
-    let w = padded-whole m in
-    let e : 64 * (length (padded m) / 64) ≡ length (padded m) = omega arith in
-    rw (p, ← absorbBytes-append newHasher m (padding (length m))) (rw (e, take-length (padded m)) at (after-blocks (padded m) (length (padded m) / 64) (omega arith)))
+    rw (p, ← absorbBytes-append newHasher m (padding (length m)), from-first (padded m) (length (padded m) / 64))
+    (all-blocks newHasher (padded m) refl refl (padded-whole m))
 
 -- all that was absorbed is hashed
 pub absorbed-hashes : (m : List ℕ) → finished (absorbed newHasher m) ≡ hashed m

@@ -24,9 +24,6 @@ loop-holds : tie.Need-loop-holds Inv-loop μ-loop
 unfolding absorbBytes
 loop-holds c = (search needs, search needs, λ b l. refl)
 
-block-at-requires : tie.Need-block-at-requires Inv-loop μ-loop
-block-at-requires c κs = search needs
-
 compress-requires : tie.Need-compress-requires Inv-loop μ-loop
 compress-requires c κs = search needs
 
@@ -38,19 +35,19 @@ loop-less c = search needs
 
 loop-again : tie.Need-loop-again Inv-loop μ-loop
 loop-again c =
-    let a = c .before .before .before .before .before .before in
-    let i = c .before .before .before .loop in (
+    let a = c .before .before .before .before .before in
+    let i = c .before .before .loop in (
       search needs,
       search needs,
       λ b l.
-          rw (c .compress .ensures, c .before .block-at .ensures, i .inv .2 b l)
+          rw (c .compress .ensures, i .inv .2 b l)
           (sym
           (ap (λ (h : Hasher). h .state)
           (one-block (record { state = a .args .h .state; block = b; len = a .args .h .len }) (a .args .s .now) l (a .pre .0) (i .o) (i .inv .1) (omega arith)))),
     )
 
-add-t11 : tie.Need-add-t11 Inv-loop μ-loop
-add-t11 c = search needs
+add-t10 : tie.Need-add-t10 Inv-loop μ-loop
+add-t10 c = search needs
 
 returns : tie.Need-returns Inv-loop μ-loop
 returns c =
@@ -67,10 +64,9 @@ absorb-blocks-spec =
     Inv-loop
     μ-loop
     loop-holds
-    block-at-requires
     compress-requires
     add-o
     loop-less
     loop-again
-    add-t11
+    add-t10
     returns)

@@ -8,22 +8,19 @@ use Rattle.sampling.proofs.sha256.absorb_end.Tie as tie
 with-bytes-requires : tie.Need-with-bytes-requires
 with-bytes-requires c κs = search needs
 
-slice-aggregate-block-at : tie.Need-slice-aggregate-block-at
-slice-aggregate-block-at c = search needs
-
-block-at-requires : tie.Need-block-at-requires
-block-at-requires c κs = search needs
+slice-aggregate-compress : tie.Need-slice-aggregate-compress
+slice-aggregate-compress c = search needs
 
 compress-requires : tie.Need-compress-requires
 compress-requires c κs = search needs
 
-add-t14 : tie.Need-add-t14
-add-t14 c = search needs
+add-t13 : tie.Need-add-t13
+add-t13 c = search needs
 
 returns : tie.Need-returns
 returns c =
-    let a = c .before .before .before .before .before .before .before in
-    rw (c .compress .ensures, c .before .block-at .ensures, c .before .before .before .with-bytes .ensures)
+    let a = c .before .before .before .before .before .before in
+    rw (c .compress .ensures, c .before .before .with-bytes .ensures)
     (sym (fills-block (a .args .h) (a .args .s .now) (a .pre .0)))
 
 pub absorb-end-spec : {M : Type 1} → statement M
@@ -31,8 +28,7 @@ absorb-end-spec =
     tie.close
     (tie.spec
     with-bytes-requires
-    slice-aggregate-block-at
-    block-at-requires
+    slice-aggregate-compress
     compress-requires
-    add-t14
+    add-t13
     returns)

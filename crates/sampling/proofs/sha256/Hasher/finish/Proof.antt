@@ -1,76 +1,40 @@
--- `finish`: by the limit: number 9, or the padding absorbed like any string.
-use mathlib.Core.Path.{sym, ap, _∙_}
+-- `finish`: by the limit: number 9, or the last bytes with their padding, in blocks.
+use mathlib.Core.Path.{_≡_, sym, _∙_}
+use mathlib.Core.List.{_++_}
+use Prim.Native.Nat.{_+_, _/_, _%_}
 use native.Mathlib.Omega.{arith}
 use borrow.Author.Needs.{needs}
-use lib.ListN.{length, length-take}
-use Rattle.sampling.specs.laws.BigEndianLaws.{length-bytesOf}
-use Rattle.sampling.specs.laws.HasherLaws.{finished-over}
-use Rattle.sampling.proofs.Absorbing.{len-after, digested}
+use lib.ListN.{length, take, length-append}
+use lib.Seq.{length-take-le}
+use Rattle.sampling.specs.Fips180.{padding}
+use Rattle.sampling.specs.laws.HashLaws.{padding-size}
+use Rattle.sampling.specs.laws.HasherLaws.{finished-in-blocks, finished-over}
+use Rattle.sampling.proofs.MessageEnd.{read-whole}
 use Rattle.sampling.proofs.sha256.Hasher.finish.Statement.{statement}
 use Rattle.sampling.proofs.sha256.Hasher.finish.Tie as tie
 
 returns : tie.Need-returns
 returns c = sym (finished-over (c .before .args .self) (omega arith))
 
-array-write-start : tie.Need-array-write-start
-array-write-start c = search needs
+tail-of-requires : tie.Need-tail-of-requires
+tail-of-requires c κs = search needs
 
-zeros-of-requires : tie.Need-zeros-of-requires
-zeros-of-requires c κs = search needs
-
-add-k : tie.Need-add-k
-add-k c = search needs
-
-mul-eight-bytes : tie.Need-mul-eight-bytes
-mul-eight-bytes c = search needs
-
-eight-bytes-requires : tie.Need-eight-bytes-requires
-eight-bytes-requires c κs = search needs
-
-array-share-prefix-start : tie.Need-array-share-prefix-start
-array-share-prefix-start c = search needs
-
-slice-aggregate-absorb-all : tie.Need-slice-aggregate-absorb-all
-slice-aggregate-absorb-all c = simp length-take (omega arith)
-
-absorb-all-requires : tie.Need-absorb-all-requires
-absorb-all-requires c κs = simp length-take (omega arith)
-
-slice-aggregate-absorb-all-2 : tie.Need-slice-aggregate-absorb-all-2
-slice-aggregate-absorb-all-2 c = search needs
-
-absorb-all-requires-2 : tie.Need-absorb-all-requires-2
-absorb-all-requires-2 c κs =
-    let h = c .before .absorb-all in
-    let e = simp length-take at (len-after _ (h .result) _ (h .ensures)) in
-    omega (arith, ap length (c .before .before .before .eight-bytes .ensures) ∙ length-bytesOf 8 _)
-
-digest-of-requires : tie.Need-digest-of-requires
-digest-of-requires c κs = search needs
+last-blocks-requires : tie.Need-last-blocks-requires
+last-blocks-requires c κs = search needs
 
 returns-2 : tie.Need-returns-2
 returns-2 c =
-    let b = c .before .before .before .before .before .eight-bytes in
-    let k = c .before .before .before .before .before .before .zeros-of in
-    let o = c .before .before .before .before .before .before .before .before in
-    digested (b .result) (k .result) (o .args .self) (c .before .before .before .absorb-all .result)
-    (c .before .absorb-all2 .result) (omega arith) (k .ensures .0) (k .ensures .1) (b .ensures) (c .before .before .before .absorb-all .ensures)
-    (c .before .absorb-all2 .ensures) (c .digest-of .ensures)
+    let h = c .before .before .before .before .before .before .args .self in
+    let t = take (h .len % 64) (h .block) in
+    let block : length (h .block) ≡ 64 = search needs in
+    let size : length t ≡ h .len % 64 = length-take-le (h .len % 64) (h .block) (omega arith) in
+    let whole = length-append t (padding (h .len)) in
+    c .last-blocks .ensures
+    ∙ rw (
+      c .before .before .tail-of .ensures,
+      read-whole (h .state) (t ++ padding (h .len)) ((h .len % 64 + 72) / 64) (omega (arith, padding-size (h .len))),
+    )
+    (sym (finished-in-blocks h block (omega arith)))
 
 pub finish-spec : {M : Type 1} → statement M
-finish-spec =
-    tie.close
-    (tie.spec
-    returns
-    array-write-start
-    zeros-of-requires
-    add-k
-    mul-eight-bytes
-    eight-bytes-requires
-    array-share-prefix-start
-    slice-aggregate-absorb-all
-    absorb-all-requires
-    slice-aggregate-absorb-all-2
-    absorb-all-requires-2
-    digest-of-requires
-    returns-2)
+finish-spec = tie.close (tie.spec returns tail-of-requires last-blocks-requires returns-2)
