@@ -1,12 +1,15 @@
 /*
  * What a loader does around alba_verify: it reads a stored proof from a file, asks, and shows green or dark with the number.
  *
- *     example_loader PROOF SET_SIZE PROOF_SIZE MAX_RETRIES SEARCH_WIDTH DFS_BOUND Q
+ *     example_loader PROOF
+ *     example_loader PROOF SET_SIZE PROOF_SIZE MAX_RETRIES SEARCH_WIDTH DFS_BOUND X
  *
  * PROOF is a file as the program prove_and_verify writes it: a line `proof R S` with the two counters, then a line for each element: its
- * data in hexadecimal (`-` if it has none) and, if the element has an index, a space and the index. Q is the 16 hexadecimal digits of
- * the double's bits. A drive has its settings built in and never takes them from whoever brings the proof; here they are arguments,
- * so that the example can be tried with several.
+ * data in hexadecimal (`-` if it has none) and, if the element has an index, a space and the index.
+ *
+ * A drive has its settings built in and never takes them from whoever brings the proof. So does this loader, compiled with
+ * -DALBA_SETTINGS='"FILE"': FILE is a header such as sample_settings.h, which `prove_and_verify header` prints. Compiled without one,
+ * it takes them as arguments, X as 32 hexadecimal digits, so that the example can be tried with several.
  *
  * It ends with status 0 for green, 1 for dark by the verifier's number, and 2 for dark because there was nothing to ask about: a file that
  * can't be read or isn't in this form, or an argument that is no number. Nothing is allocated.
@@ -24,8 +27,7 @@ enum { ELEMENTS = ALBA_MAX_PROOF_SIZE + 1, BYTES = ALBA_MAX_DATA_BYTES + 1 };
 enum { LINE = 2 * BYTES + 21 };
 
 struct settings {
-    uint64_t set_size, proof_size, max_retries, search_width, dfs_bound;
-    double q;
+    uint64_t set_size, proof_size, max_retries, search_width, dfs_bound, x_high, x_low;
 };
 
 struct proof {
@@ -165,23 +167,50 @@ static int read_proof(const char *name, struct proof *p) {
     return number == 0 ? unread(name, 0, "empty") : 0;
 }
 
+#ifdef ALBA_SETTINGS
+
+#include ALBA_SETTINGS
+
+enum { SETTINGS = 0 };
+#define USAGE "example_loader PROOF"
+
+static bool take_settings(char **arguments, struct settings *s) {
+    (void)arguments;
+    *s = (struct settings){
+        ALBA_SET_SIZE, ALBA_PROOF_SIZE, ALBA_MAX_RETRIES, ALBA_SEARCH_WIDTH, ALBA_DFS_BOUND, ALBA_X_HIGH, ALBA_X_LOW,
+    };
+    return true;
+}
+
+#else
+
+enum { SETTINGS = 6 };
+#define USAGE "example_loader PROOF SET_SIZE PROOF_SIZE MAX_RETRIES SEARCH_WIDTH DFS_BOUND X"
+
+/* A word of X: 16 hexadecimal digits. */
+static bool take_word(struct text *t, uint64_t *word) {
+    uint8_t byte;
+    *word = 0;
+    for (int i = 0; i < 8; i++) {
+        if (!take_byte(t, &byte))
+            return false;
+        *word = *word << 8 | byte;
+    }
+    return true;
+}
+
 static bool take_settings(char **arguments, struct settings *s) {
     uint64_t *const numbers[5] = {&s->set_size, &s->proof_size, &s->max_retries, &s->search_width, &s->dfs_bound};
-    uint64_t bits = 0;
     for (int i = 0; i < 5; i++) {
         struct text t = {arguments[i], arguments[i] + strlen(arguments[i])};
         if (!take_number(&t, numbers[i]) || !is_at_end(&t))
             return false;
     }
     struct text t = {arguments[5], arguments[5] + strlen(arguments[5])};
-    uint8_t byte;
-    if (t.end - t.at != 16)
-        return false;
-    while (take_byte(&t, &byte))
-        bits = bits << 8 | byte;
-    memcpy(&s->q, &bits, sizeof s->q);
-    return is_at_end(&t);
+    return take_word(&t, &s->x_high) && take_word(&t, &s->x_low) && is_at_end(&t);
 }
+
+#endif
 
 static const char *words(uint32_t number) {
     switch (number) {
@@ -191,8 +220,6 @@ static const char *words(uint32_t number) {
         return "the set size is not 1 to 32768";
     case ALBA_BAD_LIMIT:
         return "the proof size, the retries, the width or the bound is over its limit";
-    case ALBA_BAD_PROBABILITY:
-        return "the probability is below 0, above 1 or no number";
     case ALBA_MALFORMED:
         return "the elements make no list";
     case ALBA_TOO_LARGE:
@@ -211,20 +238,20 @@ static const char *words(uint32_t number) {
 int main(int count, char **arguments) {
     static struct proof p;
     struct settings s;
-    if (count != 8)
-        return unread("usage", 0, "example_loader PROOF SET_SIZE PROOF_SIZE MAX_RETRIES SEARCH_WIDTH DFS_BOUND Q");
+    if (count != 2 + SETTINGS)
+        return unread("usage", 0, USAGE);
     if (!take_settings(arguments + 2, &s))
-        return unread("a setting", 0, "five numbers, and the 16 hexadecimal digits of q");
+        return unread("a setting", 0, "five numbers, and the 32 hexadecimal digits of X");
     const int status = read_proof(arguments[1], &p);
     if (status != 0)
         return status;
     const uint32_t number =
-        alba_verify(s.set_size, s.proof_size, s.max_retries, s.search_width, s.dfs_bound, s.q, p.retry_counter, p.search_counter, p.data,
-                    p.data_len, p.ends, 4 * p.elements, p.marks, p.elements, p.indexes, 8 * p.elements);
+        alba_verify(s.set_size, s.proof_size, s.max_retries, s.search_width, s.dfs_bound, s.x_high, s.x_low, p.retry_counter,
+                    p.search_counter, p.data, p.data_len, p.ends, 4 * p.elements, p.marks, p.elements, p.indexes, 8 * p.elements);
     /*
      * Green says, by the telescope's theorem, which isn't proved here, that more than f different elements stand behind the proof but for a
-     * chance of about 2^-s (telescope.h). It doesn't say that any of them is genuine: invented bytes go green, so a drive also checks of each
-     * element, its index included, that a bench made it.
+     * chance of about 2^-s (telescope.h). It doesn't say that any of them is genuine: invented bytes go green, so a drive also checks of
+     * each element, its index included, that a bench made it.
      */
     printf("%s (%" PRIu32 "): %s\n", number == ALBA_ACCEPTED ? "green" : "dark", number, words(number));
     return number == ALBA_ACCEPTED ? 0 : 1;

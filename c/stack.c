@@ -26,10 +26,10 @@ static uint32_t answer;
 
 static void *nothing(void *unused) { return unused; }
 
-/* With set_size 1 every chain exists, so all elements are hashed; with q = 1 it passes. */
+/* With set_size 1 every chain exists, so all elements are hashed; with X all ones it passes, unless 16 bytes of a digest are all FF. */
 static void *verify(void *unused) {
-    answer = alba_verify(1, proof_size, 1, 1, 0, 1.0, 0, 0, data, BYTES * proof_size, ends, 4 * proof_size, marks, proof_size, indexes,
-                         8 * proof_size);
+    answer = alba_verify(1, proof_size, 1, 1, 0, UINT64_MAX, UINT64_MAX, 0, 0, data, BYTES * proof_size, ends, 4 * proof_size, marks,
+                         proof_size, indexes, 8 * proof_size);
     return unused;
 }
 

@@ -1,10 +1,15 @@
 /*
- * The centralized telescope's sampler and verifier, for C and C++. Link libsampling.a for the sampler and libcentralized_telescope.a
- * for the verifier (x86-64, ELF); the sampler needs no library, the verifier memcpy and memset of C's own.
+ * The centralized telescope's sampler and verifier, for C and C++. Link libsampling.a for the sampler and for the call that makes the
+ * threshold X from a probability, and libcentralized_telescope.a for the verifier (x86-64, ELF). The first needs no library, the second
+ * memcpy and memset of C's own.
  *
  * No function has a precondition on its values: each input gets one of the answers below. A pointer must be valid for the length
  * that follows it, for reads (const) or for writes; with length 0 it may be null. What is lent for writing must not overlap what is
  * lent for reading. Nothing is kept after a call, nothing is allocated, and the functions may run on several threads at once.
+ *
+ * A loader has its settings as whole numbers, in a header of its own: `prove_and_verify header SET_SIZE U C` prints one. X, a number of 128
+ * bits, stands there, and in every call that takes or gives it, as two words of 64 bits, the high one first. Only who starts from a
+ * probability q, a host that makes such a header, has a double: alba_threshold makes X of it.
  *
  * What ALBA_ACCEPTED, green, means: the chain of the proof's elements exists and passes under the settings, which must be the loader's
  * own. So much is proved. By the telescope's theorem, which takes SHA-256 for a random function and isn't proved here, it shows that more
@@ -34,7 +39,8 @@ extern "C" {
 
 /* Lengths. */
 #define ALBA_HASH_BYTES 16u /* of h: the first 16 bytes of a digest */
-#define ALBA_DRAW_BYTES 8u  /* of out: a number of 64 bits, big-endian */
+#define ALBA_DRAW_BYTES 8u  /* of a draw's out: a number of 64 bits, big-endian */
+#define ALBA_X_WORDS 2u     /* of alba_threshold's out: X's high word, then its low */
 
 /* The most that a setting, a list or an element may be; past it alba_verify refuses by number. */
 #define ALBA_MAX_SET_SIZE 32768u  /* and at least 1 */
@@ -53,17 +59,20 @@ extern "C" {
 #define ALBA_NO 0u
 #define ALBA_YES 1u
 
+/* Answer of alba_threshold. */
+#define ALBA_CONVERTED 0u /* X is in out */
+
 /* Answer of alba_verify. */
 #define ALBA_ACCEPTED 0u
 
-/* Refusals of the sampler; the first is the verifier's too. */
-#define ALBA_BAD_PROBABILITY 3u /* q is no number from 0 to 1 */
-#define ALBA_BAD_RANGE 7u       /* n is 0 */
-#define ALBA_BAD_LENGTH 8u      /* h_len is not 16, or out_len is not 8 */
+/* Refusals of the sampler and of alba_threshold. */
+#define ALBA_BAD_PROBABILITY 3u /* q is no number from 0 to 1: alba_threshold's alone */
+#define ALBA_BAD_RANGE 7u       /* n is 0: alba_sample_uniform's alone */
+#define ALBA_BAD_LENGTH 8u      /* h_len is not 16, or out_len is not what the call writes: 8 bytes, or 2 numbers of alba_threshold's */
 
 /* Refusals of the verifier. */
 #define ALBA_BAD_SET_SIZE 1u               /* set_size is not 1 to 32768 */
-#define ALBA_BAD_LIMIT 2u                  /* proof_size, max_retries, search_width or dfs_bound is over its limit */
+#define ALBA_BAD_LIMIT 2u                  /* proof_size, max_retries, search_width or dfs_bound is over its limit; every X is lawful */
 #define ALBA_MALFORMED 4u                  /* ends, marks and indexes don't make a list over the data */
 #define ALBA_TOO_LARGE 5u                  /* too many elements, or too many data bytes in one */
 #define ALBA_INCORRECT_NUMBER_ELEMENTS 20u /* the list's length is not proof_size */
@@ -86,17 +95,26 @@ extern "C" {
 uint32_t alba_sample_uniform(const uint8_t *h, size_t h_len, uint64_t n, uint8_t *out, size_t out_len);
 
 /*
- * Says yes with probability q, to within 2^-128, if h is random.
- *
- * Let X be the whole part of q * 2^128, q taken as exactly what the double says, but at most 2^128 - 1; and i the 16 bytes of h,
- * big-endian. The answer is yes if i < X, else no.
+ * Says yes where the 16 bytes of h, as one big-endian number, are below X: with probability X / 2^128, if h is random.
  *
  * h, h_len  the hash; h_len must be 16
- * q         the probability: 0 to 1, both included; negative zero is zero
+ * x_high    X's high word
+ * x_low     X's low word: X is x_high * 2^64 + x_low, and may be any number of 128 bits
  *
- * Answers ALBA_BAD_LENGTH if h_len is wrong; else ALBA_BAD_PROBABILITY; else ALBA_YES or ALBA_NO.
+ * Answers ALBA_BAD_LENGTH if h_len is wrong; else ALBA_YES or ALBA_NO.
  */
-uint32_t alba_sample_bernoulli(const uint8_t *h, size_t h_len, double q);
+uint32_t alba_sample_bernoulli(const uint8_t *h, size_t h_len, uint64_t x_high, uint64_t x_low);
+
+/*
+ * Makes X from a probability: the whole part of q * 2^128, q taken as exactly what the double says, but at most 2^128 - 1. Not every X is
+ * that of a q, since a double has 53 digits.
+ *
+ * q             the probability: 0 to 1, both included; negative zero is zero
+ * out, out_len  where X is written, its high word, then its low; out_len, a count of numbers, must be 2
+ *
+ * Answers ALBA_BAD_LENGTH if out_len is wrong; else ALBA_BAD_PROBABILITY; else ALBA_CONVERTED. out is written only with ALBA_CONVERTED.
+ */
+uint32_t alba_threshold(double q, uint64_t *out, size_t out_len);
 
 /*
  * Says whether a proof, two counters and a list of elements, is accepted under the settings.
@@ -107,7 +125,7 @@ uint32_t alba_sample_bernoulli(const uint8_t *h, size_t h_len, double q);
  * max_retries     the retry counter must be below it: 0 to 65535
  * search_width    the search counter must be below it: 0 to 2^32 - 1
  * dfs_bound       the prover's bound on its steps, which the verdict doesn't depend on: 0 to 2^48
- * q               the probability with which a chain passes: 0 to 1, both included; negative zero is zero
+ * x_high, x_low   X by its two words, any number of 128 bits: a chain passes if alba_sample_bernoulli says yes to a hash of its last round
  *
  * The proof:
  * retry_counter   the prover's try
@@ -120,15 +138,16 @@ uint32_t alba_sample_bernoulli(const uint8_t *h, size_t h_len, double q);
  *
  * Each ..._len is a count of bytes, so ends_len is 4 times and indexes_len 8 times marks_len.
  *
- * Answers the first of these that it meets: ALBA_BAD_SET_SIZE; ALBA_BAD_LIMIT; ALBA_BAD_PROBABILITY; ALBA_MALFORMED, if ends_len is
- * no multiple of 4 or indexes_len none of 8, if the counts differ, if a mark is over 1, or if an end is before the one before it or
- * past data_len; ALBA_TOO_LARGE; ALBA_INCORRECT_NUMBER_ELEMENTS; ALBA_INVALID_PARAMETERS; ALBA_INVALID_PROOF. Else ALBA_ACCEPTED.
- * It takes time in proportion to what it is lent, and less than 20,000 bytes of stack: 14,820 at most were measured, whatever proof_size
+ * Answers the first of these that it meets: ALBA_BAD_SET_SIZE; ALBA_BAD_LIMIT; ALBA_MALFORMED, if ends_len is no multiple of 4 or
+ * indexes_len none of 8, if the counts differ, if a mark is over 1, or if an end is before the one before it or past data_len;
+ * ALBA_TOO_LARGE; ALBA_INCORRECT_NUMBER_ELEMENTS; ALBA_INVALID_PARAMETERS; ALBA_INVALID_PROOF. Else ALBA_ACCEPTED.
+ * It takes time in proportion to what it is lent, and less than 20,000 bytes of stack: 14,788 at most were measured, whatever proof_size
  * is (c/stack.c, with symbols bound before; a first call in which memcpy and memset are still looked up takes some 2,500 more).
  */
-uint32_t alba_verify(uint64_t set_size, uint64_t proof_size, uint64_t max_retries, uint64_t search_width, uint64_t dfs_bound, double q,
-                     uint64_t retry_counter, uint64_t search_counter, const uint8_t *data, size_t data_len, const uint8_t *ends,
-                     size_t ends_len, const uint8_t *marks, size_t marks_len, const uint8_t *indexes, size_t indexes_len);
+uint32_t alba_verify(uint64_t set_size, uint64_t proof_size, uint64_t max_retries, uint64_t search_width, uint64_t dfs_bound,
+                     uint64_t x_high, uint64_t x_low, uint64_t retry_counter, uint64_t search_counter, const uint8_t *data, size_t data_len,
+                     const uint8_t *ends, size_t ends_len, const uint8_t *marks, size_t marks_len, const uint8_t *indexes,
+                     size_t indexes_len);
 
 #ifdef __cplusplus
 }

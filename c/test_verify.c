@@ -5,7 +5,6 @@
 #include "telescope.h"
 
 #include <inttypes.h>
-#include <math.h>
 #include <stdio.h>
 #include <stdlib.h>
 #include <string.h>
@@ -16,12 +15,11 @@ enum { MANY = 70000 };
 static unsigned made, failed;
 
 struct settings {
-    uint64_t set_size, proof_size, max_retries, search_width, dfs_bound;
-    double q;
+    uint64_t set_size, proof_size, max_retries, search_width, dfs_bound, x_high, x_low;
 };
 
-/* With set_size 1 every draw is 0, so each chain exists; with q = 1 it passes unless 16 bytes of a digest are all FF. */
-static const struct settings any_chain = {1, 2, 3, 4, 5, 1.0};
+/* With set_size 1 every draw is 0, so each chain exists; with X all ones it passes unless 16 bytes of a digest are all FF. */
+static const struct settings any_chain = {1, 2, 3, 4, 5, UINT64_MAX, UINT64_MAX};
 
 /* A list: each element has `size` data bytes and an index; `list` makes it, and a test then spoils what it is about. */
 struct list {
@@ -65,8 +63,8 @@ static void drop(struct list l) {
 }
 
 static void verify(const char *what, struct settings s, uint64_t retry, uint64_t search, struct list l, uint32_t answer) {
-    uint32_t got = alba_verify(s.set_size, s.proof_size, s.max_retries, s.search_width, s.dfs_bound, s.q, retry, search, l.data, l.data_len,
-                               l.ends, l.ends_len, l.marks, l.marks_len, l.indexes, l.indexes_len);
+    uint32_t got = alba_verify(s.set_size, s.proof_size, s.max_retries, s.search_width, s.dfs_bound, s.x_high, s.x_low, retry, search,
+                               l.data, l.data_len, l.ends, l.ends_len, l.marks, l.marks_len, l.indexes, l.indexes_len);
     made++;
     if (got != answer) {
         failed++;
@@ -98,13 +96,14 @@ static void accepted(void) {
 static void settings(void) {
     struct list l = list(2, 5);
     struct settings s = any_chain;
-    l.ends_len = 7; /* each refusal here comes before 4 */
-    s.q = NAN;
-    verify("q is NaN", s, 1, 0, l, ALBA_BAD_PROBABILITY);
-    s.q = -0.5;
-    verify("q below 0", s, 1, 0, l, ALBA_BAD_PROBABILITY);
-    s.q = 1.5;
-    verify("q above 1", s, 1, 0, l, ALBA_BAD_PROBABILITY);
+    const uint64_t words[] = {0, 1, UINT64_C(0x3ff0000000000001), UINT64_C(0x7ff8000000000000), UINT64_MAX};
+    l.ends_len = 7; /* each refusal of a setting comes before 4 */
+    for (size_t i = 0; i < sizeof words / sizeof *words; i++)
+        for (size_t j = 0; j < sizeof words / sizeof *words; j++) {
+            s.x_high = words[i];
+            s.x_low = words[j];
+            verify("every X is lawful", s, 1, 0, l, ALBA_MALFORMED);
+        }
     struct settings proof = s, retries = s, width = s, bound = s;
     proof.proof_size = 1025;
     retries.max_retries = 65536;
@@ -178,7 +177,7 @@ static void judged(void) {
     s.proof_size = 1024;
     verify("1025 elements for 1024", s, 1, 0, more, ALBA_INCORRECT_NUMBER_ELEMENTS);
     s = any_chain;
-    s.q = 0.0; /* no chain passes */
+    s.x_high = s.x_low = 0; /* no chain passes */
     verify("R = max_retries", s, 3, 0, l, ALBA_INVALID_PARAMETERS);
     verify("S = search_width", s, 0, 4, l, ALBA_INVALID_PARAMETERS);
     verify("R = 2^64 - 1", s, UINT64_MAX, 0, l, ALBA_INVALID_PARAMETERS);
@@ -191,10 +190,13 @@ static void judged(void) {
     drop(more);
 }
 
-/* A proof that the original Rust found and accepts, under settings of which no two are equal. */
-enum { NUMBERS = 7, SLICES = 4 };
-static const uint64_t found[NUMBERS] = {11, 5, 7, 41, UINT64_C(1) << 33, 3, 20};
-static const double found_q = 0.0015;
+/*
+ * A proof that the original Rust found and accepts, with q = 0.0015, under settings of which no two are equal. X is a little above the
+ * number of its last hash, which the telescope's definition gives, and far below it with its words in each other's place.
+ */
+enum { NUMBERS = 9, SLICES = 4, X_HIGH = 5, X_LOW = 6 };
+static const uint64_t number_high = UINT64_C(0x00224a2b3668aaa5), number_low = UINT64_C(0xf005ec1ec03979db);
+static const uint64_t found[NUMBERS] = {11, 5, 7, 41, UINT64_C(1) << 33, UINT64_C(0x00224a2b3668aaa6), UINT64_C(1) << 49, 3, 20};
 static uint8_t found_data[] = {0x3f, 0xe4, 0xe1, 0xe3, 0x0d, 0x8a, 0x2b, 0xe2, 0x60, 0x19, 0x1f, 0xe9, 0x00, 0xb8,
                                0xf9, 0xe6, 0x75, 0x44, 0xd0, 0x58, 0xb4, 0x34, 0xca, 0x9a, 0x36, 0xe6, 0xd7};
 static uint8_t found_ends[] = {0, 0, 0, 3, 0, 0, 0, 10, 0, 0, 0, 13, 0, 0, 0, 18, 0, 0, 0, 27};
@@ -212,28 +214,54 @@ static const struct slice found_list[SLICES] = {{found_data, sizeof found_data},
                                                 {found_marks, sizeof found_marks},
                                                 {found_indexes, sizeof found_indexes}};
 
-static const char *const number_names[NUMBERS] = {"set_size",  "proof_size",    "max_retries",   "search_width",
-                                                  "dfs_bound", "retry_counter", "search_counter"};
+static const char *const number_names[NUMBERS] = {"set_size", "proof_size", "max_retries",   "search_width",  "dfs_bound",
+                                                  "x_high",   "x_low",      "retry_counter", "search_counter"};
 static const char *const slice_names[SLICES] = {"data", "ends", "marks", "indexes"};
 
 /*
  * What is due with the row's and the column's number exchanged: a setting past its limit 1 or 2, another proof_size 20, a counter past
- * its limit 21; where none of these, the Rust's verdict, 22.
+ * its limit 21; where none of these, the Rust's verdict or, with another X, the definition's, 22.
  */
 static const uint32_t exchanged[NUMBERS][NUMBERS] = {
-    /*                    set_size, proof_size, max_retries, search_width, dfs_bound, R, S */
-    /* set_size       */ {0, 20, 22, 21, 1, 21, 22},
-    /* proof_size     */ {0, 0, 20, 20, 2, 20, 20},
-    /* max_retries    */ {0, 0, 0, 21, 2, 21, 22},
-    /* search_width   */ {0, 0, 0, 0, 2, 21, 21},
-    /* dfs_bound      */ {0, 0, 0, 0, 0, 21, 21},
-    /* retry_counter  */ {0, 0, 0, 0, 0, 0, 21},
+    /*                    set_size, proof_size, max_retries, search_width, dfs_bound, x_high, x_low, R, S */
+    /* set_size       */ {0, 20, 22, 21, 1, 1, 1, 21, 22},
+    /* proof_size     */ {0, 0, 20, 20, 2, 2, 2, 20, 20},
+    /* max_retries    */ {0, 0, 0, 21, 2, 2, 2, 21, 22},
+    /* search_width   */ {0, 0, 0, 0, 2, 2, 2, 21, 21},
+    /* dfs_bound      */ {0, 0, 0, 0, 0, 2, 2, 21, 21},
+    /* x_high         */ {0, 0, 0, 0, 0, 0, 22, 21, 21},
+    /* x_low          */ {0, 0, 0, 0, 0, 0, 0, 21, 21},
+    /* retry_counter  */ {0, 0, 0, 0, 0, 0, 0, 0, 21},
 };
 
 static void call(const char *what, const uint64_t *n, const struct slice *s, uint32_t answer) {
-    const struct settings settings = {n[0], n[1], n[2], n[3], n[4], found_q};
+    const struct settings settings = {n[0], n[1], n[2], n[3], n[4], n[X_HIGH], n[X_LOW]};
     const struct list l = {s[0].len, s[1].len, s[2].len, s[3].len, s[0].bytes, s[1].bytes, s[2].bytes, s[3].bytes};
-    verify(what, settings, n[5], n[6], l, answer);
+    verify(what, settings, n[7], n[8], l, answer);
+}
+
+static void under_x(const char *what, uint64_t x_high, uint64_t x_low, uint32_t answer) {
+    uint64_t n[NUMBERS];
+    memcpy(n, found, sizeof n);
+    n[X_HIGH] = x_high;
+    n[X_LOW] = x_low;
+    call(what, n, found_list, answer);
+}
+
+/* The chain passes exactly when its number is below X. */
+static void thresholds(void) {
+    under_x("the X of the Rust's q", UINT64_C(0x00624dd2f1a9fbe8), 0, ALBA_ACCEPTED);
+    under_x("X is the number's next", number_high, number_low + 1, ALBA_ACCEPTED);
+    under_x("X is the number", number_high, number_low, ALBA_INVALID_PROOF);
+    under_x("X has the number's high word and a low word of 0", number_high, 0, ALBA_INVALID_PROOF);
+    under_x("X has the number's high word and a low word of all ones", number_high, UINT64_MAX, ALBA_ACCEPTED);
+    under_x("X has the high word after the number's, and 0", number_high + 1, 0, ALBA_ACCEPTED);
+    under_x("X has the high word before the number's, and all ones", number_high - 1, UINT64_MAX, ALBA_INVALID_PROOF);
+    under_x("X is 0", 0, 0, ALBA_INVALID_PROOF);
+    under_x("X is 1", 0, 1, ALBA_INVALID_PROOF);
+    under_x("X is 2^64 - 1", 0, UINT64_MAX, ALBA_INVALID_PROOF);
+    under_x("X is 2^64", 1, 0, ALBA_INVALID_PROOF);
+    under_x("X is all ones", UINT64_MAX, UINT64_MAX, ALBA_ACCEPTED);
 }
 
 /* Names a call with two arguments exchanged. If it is accepted too, it doesn't tell them apart, and the test is at fault. */
@@ -275,6 +303,7 @@ int main(void) {
     malformed();
     too_large();
     judged();
+    thresholds();
     parameters();
     printf("verify: %u checks, %u failed\n", made, failed);
     return failed == 0 ? 0 : 1;

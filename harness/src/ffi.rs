@@ -3,10 +3,13 @@
 //! Nothing checks these declarations against the library, so they are few, and on numbers and bytes alone. A slice passes as a pointer
 //! and then a length. No call has a precondition: whatever is lent, the answer is one of the numbers named here.
 
+use crate::threshold::{self, Threshold};
+
 #[rustfmt::skip]
 extern "C" {
     fn alba_sample_uniform(h: *const u8, h_len: usize, n: u64, out: *mut u8, out_len: usize) -> u32;
-    fn alba_sample_bernoulli(h: *const u8, h_len: usize, q: f64) -> u32;
+    fn alba_sample_bernoulli(h: *const u8, h_len: usize, x_high: u64, x_low: u64) -> u32;
+    fn alba_threshold(q: f64, out: *mut u64, out_len: usize) -> u32;
     fn alba_small_case(u: u64, c: f64, out: *mut u64, out_len: usize) -> u32;
     fn alba_sha256(
         a: *const u8, a_len: usize, b: *const u8, b_len: usize, c: *const u8, c_len: usize, d: *const u8, d_len: usize,
@@ -17,13 +20,13 @@ extern "C" {
         marks: *const u8, marks_len: usize, indexes: *const u64, indexes_len: usize,
     ) -> u32;
     fn alba_prove(
-        set_size: u64, proof_size: u64, max_retries: u64, search_width: u64, dfs_bound: u64, q: f64,
+        set_size: u64, proof_size: u64, max_retries: u64, search_width: u64, dfs_bound: u64, x_high: u64, x_low: u64,
         data: *const u8, data_len: usize, ends: *const u32, ends_len: usize,
         marks: *const u8, marks_len: usize, indexes: *const u64, indexes_len: usize,
         places: *mut u32, places_len: usize, table: *mut u32, table_len: usize, out: *mut u64, out_len: usize,
     ) -> u32;
     fn alba_verify(
-        set_size: u64, proof_size: u64, max_retries: u64, search_width: u64, dfs_bound: u64, q: f64,
+        set_size: u64, proof_size: u64, max_retries: u64, search_width: u64, dfs_bound: u64, x_high: u64, x_low: u64,
         retry_counter: u64, search_counter: u64,
         data: *const u8, data_len: usize, ends: *const u8, ends_len: usize,
         marks: *const u8, marks_len: usize, indexes: *const u8, indexes_len: usize,
@@ -117,7 +120,7 @@ pub struct Settings {
     pub max_retries: u64,
     pub search_width: u64,
     pub dfs_bound: u64,
-    pub q: f64,
+    pub x: Threshold,
 }
 
 /// A list of elements as it is lent: with ends and indexes as numbers, or to the verifier with both in big-endian bytes.
@@ -137,11 +140,18 @@ pub fn sample_uniform(h: Lent, n: u64, out: &mut (impl Place + ?Sized)) -> u32 {
     unsafe { alba_sample_uniform(h, h_len, n, out, out_len) }
 }
 
-/// `BAD_LENGTH` (h not of 16 bytes), then `BAD_Q`, otherwise 1 for yes and 0 for no.
-pub fn sample_bernoulli(h: Lent, q: f64) -> u32 {
-    let (h, h_len) = parts(h);
+/// `BAD_LENGTH` (h not of 16 bytes), otherwise 1 for yes and 0 for no.
+pub fn sample_bernoulli(h: Lent, x: u128) -> u32 {
+    let ((h, h_len), [x_high, x_low]) = (parts(h), threshold::halves(x));
     // SAFETY: the pointer is valid for reads of its length.
-    unsafe { alba_sample_bernoulli(h, h_len, q) }
+    unsafe { alba_sample_bernoulli(h, h_len, x_high, x_low) }
+}
+
+/// `BAD_LENGTH` (out not of two numbers), then `BAD_Q`, `out` untouched in each; or 0 with X's high word and its low in `out`.
+pub fn threshold(q: f64, out: &mut (impl Place<u64> + ?Sized)) -> u32 {
+    let (out, out_len) = out.parts();
+    // SAFETY: the pointer is valid for writes of its length.
+    unsafe { alba_threshold(q, out, out_len) }
 }
 
 /// `BAD_LENGTH` (out not of 32 bytes), `out` then untouched; `TOO_LONG` with zeros in `out`; or 0 with the SHA-256 of the strings joined.
@@ -152,8 +162,8 @@ pub fn sha256(strings: [Lent; 4], out: &mut (impl Place + ?Sized)) -> u32 {
     unsafe { alba_sha256(a, a_len, b, b_len, c, c_len, d, d_len, out, out_len) }
 }
 
-/// `BAD_LENGTH` (out not of five numbers), then `BAD_U`, then `BAD_C`, `out` untouched in each; or 0 with proof_size, max_retries,
-/// search_width, dfs_bound and the bits of q in `out`.
+/// `BAD_LENGTH` (out not of six numbers), then `BAD_U`, then `BAD_C`, `out` untouched in each; or 0 with proof_size, max_retries,
+/// search_width, dfs_bound and X's high word and its low in `out`.
 pub fn small_case(u: u64, c: f64, out: &mut (impl Place<u64> + ?Sized)) -> u32 {
     let (out, out_len) = out.parts();
     // SAFETY: the pointer is valid for writes of its length.
@@ -181,10 +191,11 @@ pub fn prove(
     let ((data, data_len), (ends, ends_len)) = (parts(list.data), parts(list.ends));
     let ((marks, marks_len), (indexes, indexes_len)) = (parts(list.marks), parts(list.indexes));
     let ((places, places_len), (table, table_len), (out, out_len)) = (places.parts(), table.parts(), out.parts());
+    let [x_high, x_low] = threshold::halves(s.x.x());
     // SAFETY: each pointer is valid for its length, those of the list for reads and the last three for reads and writes.
     unsafe {
         alba_prove(
-            s.set_size, s.proof_size, s.max_retries, s.search_width, s.dfs_bound, s.q,
+            s.set_size, s.proof_size, s.max_retries, s.search_width, s.dfs_bound, x_high, x_low,
             data, data_len, ends, ends_len, marks, marks_len, indexes, indexes_len,
             places, places_len, table, table_len, out, out_len,
         )
@@ -196,10 +207,11 @@ pub fn prove(
 pub fn verify(s: &Settings, retry_counter: u64, search_counter: u64, list: Listed<u8, u8>) -> u32 {
     let ((data, data_len), (ends, ends_len)) = (parts(list.data), parts(list.ends));
     let ((marks, marks_len), (indexes, indexes_len)) = (parts(list.marks), parts(list.indexes));
+    let [x_high, x_low] = threshold::halves(s.x.x());
     // SAFETY: each pointer is valid for reads of its length.
     unsafe {
         alba_verify(
-            s.set_size, s.proof_size, s.max_retries, s.search_width, s.dfs_bound, s.q, retry_counter, search_counter,
+            s.set_size, s.proof_size, s.max_retries, s.search_width, s.dfs_bound, x_high, x_low, retry_counter, search_counter,
             data, data_len, ends, ends_len, marks, marks_len, indexes, indexes_len,
         )
     }

@@ -12,6 +12,7 @@ mod load;
 mod original;
 mod rng;
 mod stack;
+mod threshold;
 mod ticket;
 
 use args::Command;

@@ -1,6 +1,7 @@
 //! The Rust's prover and verifier, their answers by the specification's numbers.
 
 use crate::ffi::{self, Settings};
+use crate::threshold::Threshold::OfQ;
 use oracle::centralized_telescope::{params::Params, proof::Proof, telescope::Telescope};
 use oracle::utils::errors::{ProofGenerationError, VerificationError};
 use oracle::utils::types::Element;
@@ -8,12 +9,13 @@ use sha2::Sha256;
 
 pub type ProofOf<E> = Proof<E, Sha256>;
 
+/// The settings with the q that their X is of.
 pub fn params(s: &Settings) -> Params {
     Params {
         proof_size: s.proof_size,
         max_retries: s.max_retries,
         search_width: s.search_width,
-        valid_proof_probability: s.q,
+        valid_proof_probability: s.x.q(),
         dfs_bound: s.dfs_bound,
     }
 }
@@ -27,7 +29,7 @@ pub fn small_case(set_size: u64, proof_size: u64, completeness: f64) -> Settings
         max_retries: p.max_retries,
         search_width: p.search_width,
         dfs_bound: p.dfs_bound,
-        q: p.valid_proof_probability,
+        x: OfQ(p.valid_proof_probability),
     }
 }
 

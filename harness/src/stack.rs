@@ -3,7 +3,7 @@
 //! Each search runs in a process of its own, on its first thread, whose stack the system limits and below which it leaves a wide gap:
 //! beyond its limit a process is always stopped.
 
-use crate::{args::SEARCH, ffi, ffi::Settings, list::List};
+use crate::{args::SEARCH, ffi, ffi::Settings, list::List, threshold::Threshold::OfQ};
 use std::process::{Command, Stdio};
 
 /// In kilobytes: the greatest limit tried, and how near the answer is.
@@ -26,7 +26,7 @@ pub fn run(depth: Option<u64>) -> Result<(), String> {
 
 /// One element and one bin: a chain of each length up to `depth`, of which the last passes.
 fn search(depth: u64) -> Result<(), String> {
-    let settings = Settings { set_size: 1, proof_size: depth, max_retries: 1, search_width: 1, dfs_bound: depth + 1, q: 1.0 };
+    let settings = Settings { set_size: 1, proof_size: depth, max_retries: 1, search_width: 1, dfs_bound: depth + 1, x: OfQ(1.0) };
     let mut list = List::default();
     list.push(b"a", Some(7), 0);
     let (mut places, mut table, mut out) = (vec![1; depth as usize], [0; 4], [0; 3]);

@@ -9,7 +9,7 @@ use lib.Dec.{leb}
 use lib.Ieee.{Float, isNan, lt, ofInt, round, add, mul, div}
 use lib.ListN.{length, take, length-take}
 use Rattle.sampling.specs.BigEndian.{bigEndian}
-use Rattle.sampling.specs.Sample.{isPower, modNotPower, uniform, outside, threshold, bernoulli}
+use Rattle.sampling.specs.Sample.{isPower, modNotPower, uniform, outside, threshold, thresholdOrRefusal, bernoulli}
 use Rattle.sampling.specs.laws.SampleLaws.{drawn-of-one}
 use Rattle.centralized_telescope.specs.declared.params.Params.{Params}
 use Rattle.centralized_telescope.specs.Params.{notOneTo, asDouble, L, floor, ceil, beforeCeil, searchWidth, beforeFloor, dfsBound, proofSizeOut, completenessOut, smallCase, smallSettings}
@@ -18,6 +18,7 @@ use Rattle.centralized_telescope.specs.Elements.{Element, elements}
 use Rattle.centralized_telescope.specs.laws.ElementsLaws.{length-elements}
 use Rattle.centralized_telescope.specs.Lists.{Each}
 use Rattle.centralized_telescope.specs.Chains.{Chain, tryOf}
+use Rattle.centralized_telescope.specs.Rounds.{saysYes}
 use Rattle.centralized_telescope.specs.Prover.{served, answered}
 use Rattle.centralized_telescope.specs.Search.{tryFinds, searched}
 use Rattle.centralized_telescope.specs.laws.OneBinLaws.{treeSize, count-whole, none-found, tries-find-none, tries-count, never-yes}
@@ -43,8 +44,13 @@ module _ (size width retries bound : ℕ) where
   counted m = retries * min (width * treeSize m size) bound
 
   module _ (es : List Element) where
+    -- X of q 0 is 0
+    never : (h : List ℕ) → saysYes (p .x) h ≡ false
+    unfolding isNan lt outside threshold thresholdOrRefusal
+    never h = never-yes h
+
     finds : (R : ℕ) → tryFinds (tryOf p es R) ≡ none
-    finds R = none-found (tryOf p es R) refl never-yes
+    finds R = none-found (tryOf p es R) refl never
 
     proof-is : searched p es .proof ≡ none
     unfolding searched
@@ -52,7 +58,7 @@ module _ (size width retries bound : ℕ) where
 
     count-is : searched p es .count ≡ counted (length (take 2 es))
     unfolding searched
-    count-is = tries-count p es finds _ (λ R. count-whole (tryOf p es R) refl never-yes) retries 0 0 ∙ omega arith
+    count-is = tries-count p es finds _ (λ R. count-whole (tryOf p es R) refl never) retries 0 0 ∙ omega arith
 
   answered-none : (o : Option Chain) (R sum : ℕ) (places table : List ℕ) → o ≡ none
       → (answered p o R sum places table .number ≡ cond (leb bound sum) 11 12) × (answered p o R sum places table .count ≡ sum)
@@ -76,7 +82,7 @@ abbrev _&_ : {A B : Type 0} → A → B → A × B
 a & b = (a, b)
 
 pub all-cases : AllCases
-unfolding Each cases Holds isNan lt ofInt round add mul div bigEndian isPower modNotPower uniform outside threshold bernoulli notOneTo asDouble L floor ceil beforeCeil searchWidth beforeFloor dfsBound treeSize
+unfolding Each cases Holds isNan lt ofInt round add mul div bigEndian isPower modNotPower uniform outside threshold thresholdOrRefusal bernoulli notOneTo asDouble L floor ceil beforeCeil searchWidth beforeFloor dfsBound treeSize
 all-cases =
     refl
     & drawn-of-one
@@ -84,14 +90,15 @@ all-cases =
     & refl
     & refl
     & refl
-    & refl
-    & refl
-    & refl
-    & refl
-    & refl
-    & refl
+    & (refl, refl)
+    & (refl, refl)
+    & (refl, refl)
+    & (refl, refl)
+    & (refl, refl)
+    & (refl, refl)
     & small 1 80 515 refl refl refl
     & small 200 15904 10291586 refl refl refl
+    & refl
     & run-ends 2 1 3 100 1 12 9 refl refl
     & run-ends 2 1 3 9 1 11 9 refl refl
     & run-ends 2 1 1 100 2 12 7 refl refl

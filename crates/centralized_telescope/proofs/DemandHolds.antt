@@ -4,10 +4,8 @@ use mathlib.Core.Logic.{inr}
 use mathlib.Core.List.{List, [], _∷_, _++_, map}
 use Prim.Native.Nat.{ℕ, _*_, _≤_, _<_}
 use native.Mathlib.Omega.{arith}
-use lib.Ieee.{isNan, lt}
 use lib.ListN.{length, take, length-map, length-take}
 use lib.Seq.{take-at}
-use Rattle.sampling.specs.Sample.{outside, threshold, thresholdOrRefusal}
 use Rattle.centralized_telescope.specs.declared.params.Params.{Params}
 use Rattle.centralized_telescope.specs.Params.{notOneTo, limitBroken, checked}
 use Rattle.centralized_telescope.specs.laws.ParamsLaws.{lawful}
@@ -60,8 +58,8 @@ list-of es few short = record {
   same = elements-again es;
 }
 
-proof-size-few : (p : Params) → checked p .0 ≡ 0 → p .«proof_size» ≤ 1024
-proof-size-few p s = lawful p (checked p .1) (ap (λ (k : ℕ). (k, checked p .1)) s) .limits .proof-size
+proof-size-few : (p : Params) → checked p ≡ 0 → p .«proof_size» ≤ 1024
+proof-size-few p s = lawful p s .limits .proof-size
 
 -- ---- the claim, each field of `Demand3` a declaration of its name
 
@@ -135,5 +133,5 @@ demand-3 p bytes ends marks indexes places table S = record {
 -- ---- the example
 
 pub served-example : servedExample
-unfolding checked notOneTo limitBroken thresholdOrRefusal outside threshold listCheck malformed someOf endWrong tooLarge dataLong isNan lt
+unfolding checked notOneTo limitBroken listCheck malformed someOf endWrong tooLarge dataLong
 served-example = record { settings = refl; list = refl; at-least = omega arith; places-enough = omega arith; table-enough = omega arith }

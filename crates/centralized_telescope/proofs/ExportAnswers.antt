@@ -17,7 +17,7 @@ use Rattle.centralized_telescope.specs.laws.ElementsLaws.{length-element
 use Rattle.centralized_telescope.specs.Lists.{firstNumber}
 use Rattle.centralized_telescope.specs.laws.ListsLaws.{number-met, second-met}
 use Rattle.centralized_telescope.specs.Params.{checked}
-use Rattle.centralized_telescope.specs.laws.ParamsLaws.{number-alone, lawful}
+use Rattle.centralized_telescope.specs.laws.ParamsLaws.{lawful}
 use Rattle.centralized_telescope.specs.Verifier.{judged, verdict}
 use Rattle.centralized_telescope.specs.Exports.{numbersOf, isWholeCount, exportedVerdict}
 use Rattle.centralized_telescope.proofs.NumbersRead.{length-numbersIn}
@@ -40,17 +40,17 @@ module _ (d e m k : List ℕ) (A : listCheck d (numbersOf 4 e) m (numbersOf 8 k)
     indexes-room = length-take-le (length m) z h ∙ sym indexes-many ∙ length-numbersIn (length k / 8) 8 k
 
 module _ (p : Params) (R S : ℕ) (d e m k : List ℕ) where
-  pub bytes-settings-refused : (r : Refusal) → checked p ≡ (refusalNumber r, 0) → refusalNumber r ≡ exportedVerdict p R S d e m k
+  pub bytes-settings-refused : (r : Refusal) → checked p ≡ refusalNumber r → refusalNumber r ≡ exportedVerdict p R S d e m k
   unfolding exportedVerdict
   bytes-settings-refused r c = go (isWholeCount 4 e && isWholeCount 8 k)
     where
-      go : (t : Bool) → refusalNumber r ≡ cond t (verdict p R S d (numbersOf 4 e) m (numbersOf 8 k)) (firstNumber (checked p .0 ∷ 4 ∷ []))
+      go : (t : Bool) → refusalNumber r ≡ cond t (verdict p R S d (numbersOf 4 e) m (numbersOf 8 k)) (firstNumber (checked p ∷ 4 ∷ []))
       go true = settings-refused p R S d (numbersOf 4 e) m (numbersOf 8 k) r c
-      go false = sym (number-met (checked p .0) (4 ∷ []) (refusalNumber r) (number-alone c) (refusal-number r))
+      go false = sym (number-met (checked p) (4 ∷ []) (refusalNumber r) c (refusal-number r))
 
-  module _ (P : checked p .0 ≡ 0) where
-    malformed : 4 ≡ firstNumber (checked p .0 ∷ 4 ∷ [])
-    malformed = sym (second-met (checked p .0) 4 [] 4 P refl (refusal-number refusal.Malformed))
+  module _ (P : checked p ≡ 0) where
+    malformed : 4 ≡ firstNumber (checked p ∷ 4 ∷ [])
+    malformed = sym (second-met (checked p) 4 [] 4 P refl (refusal-number refusal.Malformed))
 
     pub ends-not-whole : (length e % 4 ≡ 0 → ⊥) → 4 ≡ exportedVerdict p R S d e m k
     unfolding exportedVerdict
@@ -66,10 +66,10 @@ module _ (p : Params) (R S : ℕ) (d e m k : List ℕ) where
   whole-counts E K = rw (eq-eqb (length e % 4) 0 E, eq-eqb (length k % 8) 0 K)
 
 -- no proof_size is over 1,024
-pub over-room : (p : Params) (R S : ℕ) (d n m k : List ℕ) (x : ℕ) → checked p ≡ (0, x) → listCheck d n m k ≡ 0 → 1024 < length m
+pub over-room : (p : Params) (R S : ℕ) (d n m k : List ℕ) → checked p ≡ 0 → listCheck d n m k ≡ 0 → 1024 < length m
     → 20 ≡ judged p R S (elements d n m k)
-over-room p R S d n m k x c A h =
-    other-length p R S (elements d n m k) (λ e. omega (arith, e, length-elements d n m k A, same-marks d n m k A, lawful p x c .limits .proof-size))
+over-room p R S d n m k c A h =
+    other-length p R S (elements d n m k) (λ e. omega (arith, e, length-elements d n m k A, same-marks d n m k A, lawful p c .limits .proof-size))
 
 -- ---- numbers ns that are read into the first n places of a room, of which `rest` stays as it was
 

@@ -3,6 +3,8 @@ use mathlib.Core.Path.{_≡_, refl, ap, _∙_}
 use Prim.Native.Nat.{ℕ}
 use lib.IntN.{pos}
 use lib.Ieee.{Float, binary64, ofBits, ofInt, round}
+use Rattle.sampling.specs.Sample.{xOf}
+use Rattle.sampling.specs.declared.sample.U128.{U128}
 use Rattle.centralized_telescope.specs.declared.params.SmallSettings.{SmallSettings}
 use Rattle.centralized_telescope.specs.Params.{_⊕_, _⊗_, _⊘_, asDouble, L, floor, ceil, beforeCeil, searchWidth, probability, beforeFloor, dfsBound, smallSettings}
 
@@ -50,9 +52,9 @@ module _ (u d : ℕ) where
   unfolding searchWidth
   width-is e = e ∙ ap ceil (before-ceil-is u)
 
-  pub settings-are : (c : Float) (r b : ℕ) → r ≡ ceil c → d ≡ searchWidth u → b ≡ floor (codeBeforeFloor u d)
+  pub settings-are : (c : Float) (r b : ℕ) (x : U128) → r ≡ ceil c → d ≡ searchWidth u → b ≡ floor (codeBeforeFloor u d) → x ≡ xOf (codeProbability d)
       → _≡_ {A = SmallSettings}
-      (record { «proof_size» = u; «max_retries» = r; «search_width» = d; «dfs_bound» = b; q = codeProbability d })
+      (record { «proof_size» = u; «max_retries» = r; «search_width» = d; «dfs_bound» = b; x = x })
       (smallSettings u c)
   unfolding smallSettings dfsBound
-  settings-are c r b R D B = rw (B, before-floor-is u d, probability-is d, R, D)
+  settings-are c r b x R D B X = rw (B, before-floor-is u d, X, probability-is d, R, D)

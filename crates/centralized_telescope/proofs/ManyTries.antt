@@ -144,13 +144,13 @@ module _ {p : Params} {es : List Element} {v R sum : ℕ} {o : Attempt} {last mi
         ∙ found-served p es R S (sum + t) (caught .0) now lent old (caught .2) et ends
 
 -- a table that was just filled is ready to be searched
-pub filled-ready : (p : Params) (X : ℕ) (bytes ends marks indexes : List ℕ) (R : ℕ) (table lent : List ℕ) (room : ℕ) → checked p ≡ (0, X)
+pub filled-ready : (p : Params) (bytes ends marks indexes : List ℕ) (R : ℕ) (table lent : List ℕ) (room : ℕ) → checked p ≡ 0
     → listCheck bytes ends marks indexes ≡ 0
     → table ≡ binTable (p .«set_size») (binsOf (tryOn p bytes ends marks indexes R)) lent
     → p .«proof_size» ≤ room
-    → Ready p X bytes ends marks indexes R table room
+    → Ready p bytes ends marks indexes R table room
 unfolding binTable
-filled-ready p X bytes ends marks indexes R table lent room s l t h = record {
+filled-ready p bytes ends marks indexes R table lent room s l t h = record {
   settings = s;
   list = l;
   rest = drop (3 * p .«set_size» + 1) lent;

@@ -12,7 +12,6 @@ use Rattle.centralized_telescope.specs.declared.params.Params.{Params}
 use Rattle.centralized_telescope.specs.Refusals.{refusalNumber}
 use Rattle.centralized_telescope.specs.laws.RefusalsLaws.{refusal-number}
 use Rattle.centralized_telescope.specs.Params.{checked}
-use Rattle.centralized_telescope.specs.laws.ParamsLaws.{number-alone}
 use Rattle.centralized_telescope.specs.Elements.{elements, listCheck}
 use Rattle.centralized_telescope.specs.laws.ListsLaws.{number-passed, number-met, second-met, two-passed, number-last}
 use Rattle.centralized_telescope.specs.Prover.{Proved, refused, served, workspaceShort, proverRefusal, proved}
@@ -27,15 +26,15 @@ module _ (p : Params) (bytes ends marks indexes places table : List ℕ) where
   refusal-is k e = rw (e, ne-eqb (refusalNumber k) 0 (refusal-number k))
 
   -- 1, 2, 3
-  pub settings-refused : (k : Refusal) → checked p ≡ (refusalNumber k, 0) → answer ≡ refused (refusalNumber k) places table
+  pub settings-refused : (k : Refusal) → checked p ≡ refusalNumber k → answer ≡ refused (refusalNumber k) places table
   unfolding proverRefusal
-  settings-refused k e = refusal-is k (number-met (checked p .0) _ (refusalNumber k) (number-alone e) (refusal-number k))
+  settings-refused k e = refusal-is k (number-met (checked p) _ (refusalNumber k) e (refusal-number k))
 
-  module _ (s : checked p .0 ≡ 0) where
+  module _ (s : checked p ≡ 0) where
     -- 4, 5
     pub list-refused : (k : Refusal) → listCheck bytes ends marks indexes ≡ refusalNumber k → answer ≡ refused (refusalNumber k) places table
     unfolding proverRefusal
-    list-refused k e = refusal-is k (second-met (checked p .0) (listCheck bytes ends marks indexes) _ (refusalNumber k) s e (refusal-number k))
+    list-refused k e = refusal-is k (second-met (checked p) (listCheck bytes ends marks indexes) _ (refusalNumber k) s e (refusal-number k))
 
     module _ (l : listCheck bytes ends marks indexes ≡ 0) where
       -- 6
@@ -43,7 +42,7 @@ module _ (p : Params) (bytes ends marks indexes places table : List ℕ) where
       unfolding proverRefusal
       short t =
           refusal-is refusal.WorkspaceShort
-          (two-passed (checked p .0) (listCheck bytes ends marks indexes) _ s l
+          (two-passed (checked p) (listCheck bytes ends marks indexes) _ s l
           ∙ number-met (cond (workspaceShort p places table) 6 0) _ 6 (rw t) (refusal-number refusal.WorkspaceShort))
 
       pub places-short : length places < p .«proof_size» → answer ≡ refused 6 places table
@@ -60,7 +59,7 @@ module _ (p : Params) (bytes ends marks indexes places table : List ℕ) where
           after-six : proverRefusal p bytes ends marks indexes places table ≡ cond (ltb (length ends) (p .«set_size»)) 10 0
           unfolding proverRefusal
           after-six =
-              two-passed (checked p .0) (listCheck bytes ends marks indexes) _ s l
+              two-passed (checked p) (listCheck bytes ends marks indexes) _ s l
               ∙ number-passed (cond (workspaceShort p places table) 6 0) _ (rw enough)
               ∙ number-last (cond (ltb (length ends) (p .«set_size»)) 10 0)
 

@@ -6,18 +6,18 @@ use mathlib.Core.Option.{Option}
 use Prim.Native.Nat.{ℕ, _+_, _^_, _≤_}
 use native.Mathlib.Omega.{arith}
 use borrow.Author.Tests.{eq-eqb, ne-eqb}
-use lib.Dec.{ltb}
 use lib.ListN.{length, take, drop, length-append, length-take}
 use lib.Seq.{take-all}
 use Rattle.sampling.specs.laws.CommonLaws.{copied}
-use Rattle.sampling.specs.BigEndian.{bigEndian, bytesOf}
+use Rattle.sampling.specs.BigEndian.{bytesOf}
 use Rattle.sampling.specs.laws.BigEndianLaws.{length-bytesOf}
 use Rattle.sampling.specs.Fips180.{sha256}
 use Rattle.sampling.specs.Hash.{hashed}
 use Rattle.sampling.specs.laws.HashLaws.{hashed-within}
 use Rattle.centralized_telescope.specs.Elements.{Element, indexBytes, tail, indexOf}
-use Rattle.centralized_telescope.specs.Rounds.{roundLabel, binLabel, proofLabel, startHash, drawnBelow, binOf}
-use Rattle.centralized_telescope.specs.inner.RoundAnswers.{belowX}
+use Rattle.centralized_telescope.specs.Rounds.{roundLabel, binLabel, proofLabel, startHash, drawnBelow, binOf, saysYes}
+use Rattle.sampling.specs.Sample.{valueOf, bernoulli}
+use Rattle.sampling.specs.declared.sample.U128.{U128}
 
 -- ---- an element's index: 8 bytes with the mark 1, else none
 
@@ -54,6 +54,6 @@ bin-is o d t n R e O D T = rw (← T, ← D) O
 pub half-is : (h d : List ℕ) → length h ≡ 32 → length d ≡ 16 → take (length (take 16 h)) (take 16 h) ++ drop (length (take 16 h)) d ≡ take 16 h
 half-is h d H D = copied (take 16 h) d (simp length-take (omega arith))
 
-pub yes-is : (h d f : List ℕ) (x : ℕ) (r : Bool) → d ≡ sha256 (proofLabel ++ (h ++ [])) → f ≡ take 16 d → r ≡ ltb (bigEndian 16 f) x → r ≡ belowX x h
-unfolding belowX
+pub yes-is : (h d f : List ℕ) (x : U128) (r : Bool) → d ≡ sha256 (proofLabel ++ (h ++ [])) → f ≡ take 16 d → r ≡ bernoulli f (valueOf x) → r ≡ saysYes x h
+unfolding saysYes
 yes-is h d f x r D F e = rw (← append-nil h, ← D, ← F) e

@@ -1,27 +1,23 @@
--- What a search that is ready knows: the limits, its bin table's starts, parts and entries, and the yes or no by the threshold.
-use mathlib.Core.Path.{_≡_, ap, sym, _∙_}
+-- What a search that is ready knows: the limits, and its bin table's starts, parts and entries.
+use mathlib.Core.Path.{_≡_, ap, _∙_}
 use mathlib.Core.List.{List}
 use Prim.Native.Nat.{ℕ, _+_, _-_, _*_, _^_, _≤_, _<_}
 use native.Mathlib.Omega.{arith}
 use lib.ListN.{length, getD, length-append, length-take}
 use lib.Seq.{slice}
-use Rattle.sampling.specs.laws.SampleLaws.{threshold-at}
 use Rattle.centralized_telescope.specs.declared.params.Params.{Params}
 use Rattle.centralized_telescope.specs.laws.ParamsLaws.{Lawful, lawful}
 use Rattle.centralized_telescope.specs.Elements.{elements, elementAt}
 use Rattle.centralized_telescope.specs.laws.ElementsLaws.{length-elements, at-kept}
-use Rattle.centralized_telescope.specs.Rounds.{saysYes}
-use Rattle.centralized_telescope.specs.laws.RoundsLaws.{yes-below}
 use Rattle.centralized_telescope.specs.Bins.{startOf, tableOf}
 use Rattle.centralized_telescope.specs.laws.BinsLaws.{length-table, starts-ascend, start-bound, table-start, table-part, table-entry}
 use Rattle.centralized_telescope.specs.Chains.{Try}
 use Rattle.centralized_telescope.specs.Search.{binsOf, placesIn}
-use Rattle.centralized_telescope.specs.inner.RoundAnswers.{belowX}
 use Rattle.centralized_telescope.specs.laws.TryLaws.{length-binList}
 use Rattle.centralized_telescope.specs.inner.Visit.{tryOn, Ready, Span}
 
-module _ {p : Params} {X : ℕ} {bytes ends marks indexes : List ℕ} {R : ℕ} {table : List ℕ} {room : ℕ}
-    (r : Ready p X bytes ends marks indexes R table room) where
+module _ {p : Params} {bytes ends marks indexes : List ℕ} {R : ℕ} {table : List ℕ} {room : ℕ}
+    (r : Ready p bytes ends marks indexes R table room) where
   abbrev T : Try
   T = tryOn p bytes ends marks indexes R
 
@@ -30,8 +26,8 @@ module _ {p : Params} {X : ℕ} {bytes ends marks indexes : List ℕ} {R : ℕ} 
 
   -- ---- the limits
 
-  law : Lawful p X
-  law = lawful p X (r .settings)
+  law : Lawful p
+  law = lawful p (r .settings)
 
   pub set-size-most : N ≤ 32768
   set-size-most = law .set-size .1
@@ -41,9 +37,6 @@ module _ {p : Params} {X : ℕ} {bytes ends marks indexes : List ℕ} {R : ℕ} 
 
   pub bound-most : p .«dfs_bound» ≤ 2 ^ 48
   bound-most = law .limits .dfs-bound
-
-  pub yes-is : (h : List ℕ) → saysYes (p .q) h ≡ belowX X h
-  yes-is h = yes-below (p .q) X h (threshold-at (p .q) (law .unit) ∙ ap (λ (x : ℕ). (0, x)) (sym (law .threshold-is)))
 
   -- ---- the kept elements
 

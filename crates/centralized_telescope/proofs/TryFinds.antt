@@ -31,12 +31,12 @@ module _ (T : Try) where
   unfolding passing
   is-passing c p = rw (eq-eqb (length (c .places)) (T .settings .«proof_size») (p .exactly)) (p .yes)
 
-  passing-is : (c : Chain) → passing T c ≡ true → (length (c .places) ≡ T .settings .«proof_size») × (saysYes (T .settings .q) (c .last) ≡ true)
+  passing-is : (c : Chain) → passing T c ≡ true → (length (c .places) ≡ T .settings .«proof_size») × (saysYes (T .settings .x) (c .last) ≡ true)
   unfolding passing
   passing-is c e = go (eqb (length (c .places)) (T .settings .«proof_size»)) refl e
     where
-      go : (b : Bool) → eqb (length (c .places)) (T .settings .«proof_size») ≡ b → cond b (saysYes (T .settings .q) (c .last)) false ≡ true
-          → (length (c .places) ≡ T .settings .«proof_size») × (saysYes (T .settings .q) (c .last) ≡ true)
+      go : (b : Bool) → eqb (length (c .places)) (T .settings .«proof_size») ≡ b → cond b (saysYes (T .settings .x) (c .last)) false ≡ true
+          → (length (c .places) ≡ T .settings .«proof_size») × (saysYes (T .settings .x) (c .last) ≡ true)
       go true q v = (eqb-true _ _ q, v)
       go false q v = absurd (false≢true v)
 

@@ -36,9 +36,9 @@ module _ (T : Try) (S : ℕ) (h ps : List ℕ) (depth to : ℕ) (table : List �
 
 -- what is known in a turn, at the index i of the table, where the next hash, g, is made by the element at the place w and the id d is drawn
 -- from it: `next` is the path that is handed on, mid are the lent places as they are, old as they were
-pub record Turning (p : Params) (X : ℕ) (bytes ends marks indexes : List ℕ) (R : ℕ) (table : List ℕ) (room S : ℕ) (h ps : List ℕ)
+pub record Turning (p : Params) (bytes ends marks indexes : List ℕ) (R : ℕ) (table : List ℕ) (room S : ℕ) (h ps : List ℕ)
     (depth from to i count : ℕ) (whole : Ended Chain) (w : ℕ) (g : List ℕ) (d : Id) (next mid old : List ℕ) : Type 0 where
-  pub ready : Ready p X bytes ends marks indexes R table room
+  pub ready : Ready p bytes ends marks indexes R table room
   pub span : Span p table from to
   pub still : whole ≡ walked (tryOn p bytes ends marks indexes R) S h ps depth (slice i to table) count
   pub low : from ≤ i
@@ -51,9 +51,9 @@ pub record Turning (p : Params) (X : ℕ) (bytes ends marks indexes : List ℕ) 
   pub path-is : take depth next ≡ ps
   pub as-lent : mid ≡ old
 
-module _ {p : Params} {X : ℕ} {bytes ends marks indexes : List ℕ} {R : ℕ} {table : List ℕ} {room S : ℕ} {h ps : List ℕ} {depth from to i count : ℕ}
+module _ {p : Params} {bytes ends marks indexes : List ℕ} {R : ℕ} {table : List ℕ} {room S : ℕ} {h ps : List ℕ} {depth from to i count : ℕ}
     {whole : Ended Chain} {w : ℕ} {g : List ℕ} {d : Id} {next mid old : List ℕ}
-    (k : Turning p X bytes ends marks indexes R table room S h ps depth from to i count whole w g d next mid old) where
+    (k : Turning p bytes ends marks indexes R table room S h ps depth from to i count whole w g d next mid old) where
   abbrev T : Try
   T = tryOn p bytes ends marks indexes R
 

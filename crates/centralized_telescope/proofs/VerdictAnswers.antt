@@ -1,12 +1,10 @@
 -- The verdict by its tests, in the table's order.
-use mathlib.Core.Path.{_≡_, refl, ap, sym, _∙_}
+use mathlib.Core.Path.{_≡_, refl, sym, _∙_}
 use mathlib.Core.Bool.{Bool, cond}
 use mathlib.Core.List.{List}
 use Prim.Native.Nat.{ℕ, _≤_, _<_}
 use borrow.Author.Tests.{eq-eqb, ne-eqb, le-leb, lt-leb}
 use lib.ListN.{length}
-use Rattle.sampling.specs.Sample.{thresholdOrRefusal}
-use Rattle.sampling.specs.laws.SampleLaws.{threshold-at}
 use Rattle.centralized_telescope.specs.declared.errors.Refusal.{Refusal}
 use Rattle.centralized_telescope.specs.declared.params.Params.{Params}
 use Rattle.centralized_telescope.specs.Refusals.{refusalNumber}
@@ -14,7 +12,6 @@ use Rattle.centralized_telescope.specs.laws.RefusalsLaws.{refusal-number
 use Rattle.centralized_telescope.specs.Elements.{Element, elements, listCheck}
 use Rattle.centralized_telescope.specs.laws.ListsLaws.{number-met, second-met, two-passed, number-last}
 use Rattle.centralized_telescope.specs.Params.{checked}
-use Rattle.centralized_telescope.specs.laws.ParamsLaws.{number-alone, lawful}
 use Rattle.centralized_telescope.specs.Verifier.{lastHash, yesOn, judged, verdict}
 
 -- ---- 20, 21 and 22
@@ -35,32 +32,26 @@ module _ (p : Params) (R S : ℕ) (es : List Element) where
       retries-reached r =
           rw (eq-eqb (length es) (p .«proof_size») L, lt-leb (p .«search_width») S W, le-leb (p .«max_retries») R r)
 
-      pub chain-told : R < p .«max_retries» → (t : Bool) → yesOn (p .q) (lastHash p R S es) ≡ t → cond t 0 22 ≡ judged p R S es
+      pub chain-told : R < p .«max_retries» → (t : Bool) → yesOn (p .x) (lastHash p R S es) ≡ t → cond t 0 22 ≡ judged p R S es
       unfolding judged
       chain-told r t e =
           rw (eq-eqb (length es) (p .«proof_size») L, lt-leb (p .«search_width») S W, lt-leb (p .«max_retries») R r, e)
 
 -- ---- the whole
 
--- X, which the check of the settings hands over, is the threshold of their q
-pub threshold-passed : (p : Params) (x : ℕ) → checked p ≡ (0, x) → thresholdOrRefusal (p .q) ≡ (0, x)
-threshold-passed p x e =
-    let l = lawful p x e in
-    threshold-at (p .q) (l .unit) ∙ ap (λ (k : ℕ). (0, k)) (sym (l .threshold-is))
-
 module _ (p : Params) (R S : ℕ) (d n m x : List ℕ) where
-  pub settings-refused : (k : Refusal) → checked p ≡ (refusalNumber k, 0) → refusalNumber k ≡ verdict p R S d n m x
+  pub settings-refused : (k : Refusal) → checked p ≡ refusalNumber k → refusalNumber k ≡ verdict p R S d n m x
   unfolding verdict
-  settings-refused k e = sym (number-met (checked p .0) _ (refusalNumber k) (number-alone e) (refusal-number k))
+  settings-refused k e = sym (number-met (checked p) _ (refusalNumber k) e (refusal-number k))
 
-  module _ (P : checked p .0 ≡ 0) where
+  module _ (P : checked p ≡ 0) where
     pub list-met : (listCheck d n m x ≡ 0 → ⊥) → listCheck d n m x ≡ verdict p R S d n m x
     unfolding verdict
-    list-met z = sym (second-met (checked p .0) (listCheck d n m x) _ (listCheck d n m x) P refl z)
+    list-met z = sym (second-met (checked p) (listCheck d n m x) _ (listCheck d n m x) P refl z)
 
     pub list-refused : (k : Refusal) → listCheck d n m x ≡ refusalNumber k → refusalNumber k ≡ verdict p R S d n m x
     list-refused k e = sym e ∙ list-met (λ z. refusal-number k (sym e ∙ z))
 
     pub left-to-judge : listCheck d n m x ≡ 0 → judged p R S (elements d n m x) ≡ verdict p R S d n m x
     unfolding verdict
-    left-to-judge l = sym (two-passed (checked p .0) (listCheck d n m x) _ P l ∙ number-last (judged p R S (elements d n m x)))
+    left-to-judge l = sym (two-passed (checked p) (listCheck d n m x) _ P l ∙ number-last (judged p R S (elements d n m x)))

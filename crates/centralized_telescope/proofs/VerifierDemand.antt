@@ -102,7 +102,7 @@ module _ (p : Params) (R S : ℕ) (bytes ends marks indexes : List ℕ) where
   -- ---- which it is
 
   abbrev yes : Bool
-  yes = yesOn (p .q) (lastHash p R S es)
+  yes = yesOn (p .x) (lastHash p R S es)
 
   yes-passes : Long → yes ≡ true → Pass
   yes-passes l y = (l, yes-exists p R S es y)
@@ -131,7 +131,7 @@ module _ (p : Params) (R S : ℕ) (bytes ends marks indexes : List ℕ) where
       go true l false o true y = by-none refl (in-is o) (yes-passes (eqb-true _ _ l) y)
       go true l false o false y = by-chain refl (eqb-true _ _ l) (in-is o) (λ k. false≢true (sym y ∙ passes-yes k))
 
-  module _ (s : checked p .0 ≡ 0) where
+  module _ (s : checked p ≡ 0) where
     abbrev v : ℕ
     v = verdict p R S bytes ends marks indexes
 

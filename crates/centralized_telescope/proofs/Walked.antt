@@ -92,16 +92,16 @@ module _ (T : Try) (S : ℕ) where
           rw (e, lt-ltb count bound lc, f)
 
       module _ (full : depth ≡ size) where
-        last-step : ended ≡ cond (saysYes (T .settings .q) h) (found (count + 1) (record { search = S; places = places; last = h })) (missing (count + 1))
+        last-step : ended ≡ cond (saysYes (T .settings .x) h) (found (count + 1) (record { search = S; places = places; last = h })) (missing (count + 1))
         unfolding visited chains walk passing
         last-step =
             let e : size - depth ≡ 0 = omega arith in
             rw (e, lt-ltb count bound lc, eq-eqb (length places) size (lp ∙ full))
 
-        pub visited-pass : saysYes (T .settings .q) h ≡ true → ended ≡ found (count + 1) (record { search = S; places = places; last = h })
+        pub visited-pass : saysYes (T .settings .x) h ≡ true → ended ≡ found (count + 1) (record { search = S; places = places; last = h })
         visited-pass y = last-step ∙ rw y
 
-        pub visited-fail : saysYes (T .settings .q) h ≡ false → ended ≡ missing (count + 1)
+        pub visited-fail : saysYes (T .settings .x) h ≡ false → ended ≡ missing (count + 1)
         visited-fail y = last-step ∙ rw y
 
 -- ---- from an answer back to the walk's end

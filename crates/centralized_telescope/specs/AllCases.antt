@@ -1,12 +1,12 @@
 -- Document 01, Cases to prove: a to l as one table over the definitions that the contracts cite.
 use mathlib.Core.Path.{_≡_}
-use mathlib.Core.Bool.{false}
+use mathlib.Core.Bool.{Bool, true, false}
 use mathlib.Core.List.{List, [], _∷_, _++_}
 use Prim.Native.Nat.{ℕ}
 use lib.IntN.{ℤ, pos, negsuc}
 use lib.Ieee.{Float, fin}
 use lib.ListN.{length, replicate}
-use Rattle.sampling.specs.Sample.{uniform, bernoulli}
+use Rattle.sampling.specs.Sample.{uniform, thresholdOrRefusal, valueOf, xOf, bernoulli}
 use Rattle.centralized_telescope.specs.declared.params.Params.{Params}
 use Rattle.centralized_telescope.specs.Params.{completenessOut, smallCase}
 use Rattle.centralized_telescope.specs.Lists.{Each}
@@ -34,8 +34,10 @@ pub data Case : Type 0 where
   draws : List ℕ → ℕ → ℕ → ℕ → Case
   -- n; the number and the value, whatever the bytes
   always-draws : ℕ → ℕ → ℕ → Case
-  -- 16 bytes and q; 1 for yes, 0 for no
-  tells : List ℕ → Float → ℕ → Case
+  -- 16 bytes and q, of which X is made; yes or no
+  tells : List ℕ → Float → Bool → Case
+  -- q; the X of it
+  converts : Float → ℕ → Case
   -- u; search_width and dfs_bound, whatever the completeness
   sets : ℕ → ℕ → ℕ → Case
   -- how many elements; proof_size, search_width, max_retries and dfs_bound; the number and the count
@@ -43,10 +45,14 @@ pub data Case : Type 0 where
   -- how many elements, and dfs_bound; the number and the count with max_retries 0, whatever proof_size and search_width
   tries-none : ℕ → ℕ → ℕ → ℕ → Case
 
--- settings of i to l: q is 0, and set_size 1
+-- q of i to l
+abbrev pub zero : Float
+zero = fin false 0 (pos 0)
+
+-- settings of i to l: X is that of their q, and set_size 1
 abbrev pub settingsOf : ℕ → ℕ → ℕ → ℕ → Params
 settingsOf size width retries bound =
-    record { «set_size» = 1; «proof_size» = size; «max_retries» = retries; «search_width» = width; «dfs_bound» = bound; q = fin false 0 (pos 0) }
+    record { «set_size» = 1; «proof_size» = size; «max_retries» = retries; «search_width» = width; «dfs_bound» = bound; x = xOf zero }
 
 -- a run under such settings, whatever the elements, being so many, and the workspace
 abbrev pub Ends : Params → ℕ → ℕ → ℕ → Type 0
@@ -57,7 +63,8 @@ Ends p n number count =
 unfoldable pub Holds : Case → Type 0
 Holds (draws h n number value) = uniform h n ≡ (number, value)
 Holds (always-draws n number value) = (h : List ℕ) → uniform h n ≡ (number, value)
-Holds (tells h q number) = bernoulli h q ≡ number
+Holds (tells h q answer) = (thresholdOrRefusal q .0 ≡ 0) × (bernoulli h (valueOf (xOf q)) ≡ answer)
+Holds (converts q X) = thresholdOrRefusal q ≡ (0, X)
 Holds (sets u d bound) =
     (c : Float) → completenessOut c ≡ false
     → (smallCase u c .0 ≡ 0) × (smallCase u c .1 .«search_width» ≡ d) × (smallCase u c .1 .«dfs_bound» ≡ bound)
@@ -78,17 +85,19 @@ cases =
     ∷ draws (ends 0xff 0xfe) 3 0 2
     ∷ draws (ends 0xff 0xff) 3 1 0
     -- e
-    ∷ tells (ends 0xff 0xff) (two-to (pos 0)) 0
-    ∷ tells (ends 0xff 0xfe) (two-to (pos 0)) 1
+    ∷ tells (ends 0xff 0xff) (two-to (pos 0)) false
+    ∷ tells (ends 0xff 0xfe) (two-to (pos 0)) true
     -- f
-    ∷ tells (starts 0x7f 0xff) (two-to (negsuc 0)) 1
-    ∷ tells (starts 0x80 0) (two-to (negsuc 0)) 0
+    ∷ tells (starts 0x7f 0xff) (two-to (negsuc 0)) true
+    ∷ tells (starts 0x80 0) (two-to (negsuc 0)) false
     -- g
-    ∷ tells (ends 0 0) (two-to (negsuc 127)) 1
-    ∷ tells (ends 0 0) (two-to (negsuc 128)) 0
+    ∷ tells (ends 0 0) (two-to (negsuc 127)) true
+    ∷ tells (ends 0 0) (two-to (negsuc 128)) false
     -- h
     ∷ sets 1 80 515
     ∷ sets 200 15904 10291586
+    -- i to l, their q
+    ∷ converts zero 0
     -- i
     ∷ searches 1 2 1 3 100 12 9
     ∷ searches 1 2 1 3 9 11 9

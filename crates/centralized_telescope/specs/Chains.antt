@@ -27,7 +27,7 @@ ElementsExist p R S es last = (i : ℕ) × (roundId (p .«set_size») (startHash
 -- 01, Search, passing: the chain exists, is of full length, and its last hash is told yes
 abbrev pub ElementsPass : Params → ℕ → ℕ → List Element → Type 0
 ElementsPass p R S es =
-    (length es ≡ p .«proof_size») × ((last : List ℕ) × ElementsExist p R S es last × (saysYes (p .q) last ≡ true))
+    (length es ≡ p .«proof_size») × ((last : List ℕ) × ElementsExist p R S es last × (saysYes (p .x) last ≡ true))
 
 -- ---- of a search
 
@@ -60,7 +60,7 @@ pub record Exists (T : Try) (c : Chain) : Type 0 where
 pub record Passes (T : Try) (c : Chain) : Type 0 where
   pub exists : Exists T c
   pub exactly : length (c .places) ≡ T .settings .«proof_size»
-  pub yes : saysYes (T .settings .q) (c .last) ≡ true
+  pub yes : saysYes (T .settings .x) (c .last) ≡ true
 
 -- 01, Search, the order of places: what another begins with is before it; else the first place that differs tells
 unfoldable pub PlacesBefore : List ℕ → List ℕ → Type 0

@@ -1,12 +1,9 @@
 -- Demand 3, on prove and verify at once. The words first, then the claim, one field or more for each of its sentences, over the
 -- definitions that the contracts of `prove` (specs/Prover) and `verify` (specs/Verifier) equate their results with.
 use mathlib.Core.Path.{_≡_}
-use mathlib.Core.Bool.{false}
 use mathlib.Core.Logic.{_⊎_, _↔_}
 use mathlib.Core.List.{List, [], _∷_, _++_, map, List·Memᴰ}
-use Prim.Native.Nat.{ℕ, zero, suc, _+_, _*_, _≤_, _<_, min}
-use lib.IntN.{negsuc}
-use lib.Ieee.{fin}
+use Prim.Native.Nat.{ℕ, zero, suc, _+_, _*_, _^_, _≤_, _<_, min}
 use lib.ListN.{length, take, drop, replicate}
 use Rattle.centralized_telescope.specs.declared.params.Params.{Params}
 use Rattle.centralized_telescope.specs.Params.{checked}
@@ -57,7 +54,7 @@ Accepted bytes ends marks indexes = listCheck bytes ends marks indexes ≡ 0
 -- ---- the premise: lawful settings, an accepted list with set_size elements or more, and workspace long enough, with anything in it
 
 pub record Served (p : Params) (bytes ends marks indexes places table : List ℕ) : Type 0 where
-  pub settings : checked p .0 ≡ 0
+  pub settings : checked p ≡ 0
   pub list : Accepted bytes ends marks indexes
   pub at-least : p .«set_size» ≤ length ends
   pub places-enough : p .«proof_size» ≤ length places
@@ -168,7 +165,7 @@ demand3 =
 
 abbrev pub exampleSettings : Params
 exampleSettings =
-    record { «set_size» = 2; «proof_size» = 3; «max_retries» = 4; «search_width» = 5; «dfs_bound» = 600; q = fin false 1 (negsuc 0) }
+    record { «set_size» = 2; «proof_size» = 3; «max_retries» = 4; «search_width» = 5; «dfs_bound» = 600; x = record { hi = 2 ^ 63; lo = 0 } }
 
 abbrev pub servedExample : Type 0
 servedExample =

@@ -3,7 +3,6 @@ use mathlib.Core.Bool.{Bool, cond, _&&_}
 use mathlib.Core.List.{List, [], _∷_}
 use Prim.Native.Nat.{ℕ, zero, suc, _/_, _%_}
 use lib.Dec.{eqb}
-use lib.Ieee.{Float}
 use lib.ListN.{length, drop}
 use Rattle.sampling.specs.BigEndian.{bigEndian}
 use Rattle.centralized_telescope.specs.declared.params.Params.{Params}
@@ -11,15 +10,15 @@ use Rattle.centralized_telescope.specs.Lists.{firstNumber}
 use Rattle.centralized_telescope.specs.Params.{checked}
 use Rattle.centralized_telescope.specs.Verifier.{verdict}
 
--- the settings, each an argument
-abbrev pub settingsOf : ℕ → ℕ → ℕ → ℕ → ℕ → Float → Params
-settingsOf size proof retries width bound q = record {
+-- the settings, each an argument, X by its high word and its low (02, N4)
+abbrev pub settingsOf : ℕ → ℕ → ℕ → ℕ → ℕ → ℕ → ℕ → Params
+settingsOf size proof retries width bound high low = record {
   «set_size» = size;
   «proof_size» = proof;
   «max_retries» = retries;
   «search_width» = width;
   «dfs_bound» = bound;
-  q = q;
+  x = record { hi = high; lo = low };
 }
 
 -- the first n numbers, of k big-endian bytes each
@@ -39,4 +38,4 @@ unfoldable pub exportedVerdict : Params → ℕ → ℕ → List ℕ → List �
 exportedVerdict p R S bytes ends marks indexes =
     cond (isWholeCount 4 ends && isWholeCount 8 indexes)
     (verdict p R S bytes (numbersOf 4 ends) marks (numbersOf 8 indexes))
-    (firstNumber (checked p .0 ∷ 4 ∷ []))
+    (firstNumber (checked p ∷ 4 ∷ []))

@@ -4,7 +4,7 @@ use Prim.Native.Nat.{ℕ, _+_, _-_, _*_, _/_, _%_, _^_}
 use lib.IntN.{pos}
 use lib.Dec.{ltb, eqb}
 use lib.Ieee.{Float, nan, inf, fin, binary64, up, down, round, ofInt, add, mul, div}
-use Rattle.sampling.specs.Sample.{outside, valueOf, thresholdOrRefusal}
+use Rattle.sampling.specs.Sample.{outside, halvesOf, xOf}
 use Rattle.centralized_telescope.specs.Refusals.{refusalNumber}
 use Rattle.centralized_telescope.specs.declared.params.Params.{Params}
 use Rattle.centralized_telescope.specs.declared.params.Checked.{Checked}
@@ -29,14 +29,14 @@ limitBroken p =
     ltb 1024 (p .«proof_size»)
     || (ltb 65535 (p .«max_retries») || (ltb (2 ^ 32 - 1) (p .«search_width») || ltb (2 ^ 48) (p .«dfs_bound»)))
 
--- 01, Lent and given back, the order of the table: the number of the first refusal, or 0 with X of q. Refusal 3 is the sampler's
-unfoldable pub checked : Params → ℕ × ℕ
-checked p = cond (setSizeOut (p .«set_size»)) (1, 0) (cond (limitBroken p) (2, 0) (thresholdOrRefusal (p .q)))
+-- 01, Lent and given back, the order of the table: the number of the first refusal, or 0. Every X is lawful (02, N4)
+unfoldable pub checked : Params → ℕ
+checked p = cond (setSizeOut (p .«set_size»)) 1 (cond (limitBroken p) 2 0)
 
--- 01's number, and X, for each answer of the check
-abbrev pub checkedNumber : Checked → ℕ × ℕ
-checkedNumber (check.Lawful x) = (0, valueOf x)
-checkedNumber (check.Refused k) = (refusalNumber k, 0)
+-- 01's number for each answer of the check
+abbrev pub checkedNumber : Checked → ℕ
+checkedNumber check.Lawful = 0
+checkedNumber (check.Refused k) = refusalNumber k
 
 -- ---- doubles. Each result is rounded: IEEE 754-2019, 5.4.1, to the nearest, ties to even
 
@@ -92,19 +92,19 @@ beforeFloor u d = ((asDouble 8 ⊗ (asDouble 1 ⊘ L)) ⊗ (asDouble u ⊕ asDou
 unfoldable pub dfsBound : ℕ → ℕ → ℕ
 dfsBound u d = floor (beforeFloor u d)
 
--- 01, Small-case settings, the answer: u itself, c rounded up, and those above; set_size is left to the caller
+-- 01, Small-case settings, the answer: u itself, c rounded up, and those above, with X of q (02, N4); set_size is left to the caller
 unfoldable pub smallSettings : ℕ → Float → SmallSettings
 smallSettings u c = record {
   «proof_size» = u;
   «max_retries» = ceil c;
   «search_width» = searchWidth u;
   «dfs_bound» = dfsBound u (searchWidth u);
-  q = probability (searchWidth u);
+  x = xOf (probability (searchWidth u));
 }
 
 -- 01, Lent and given back, refusals: every setting is 0
 abbrev pub zeros : SmallSettings
-zeros = record { «proof_size» = 0; «max_retries» = 0; «search_width» = 0; «dfs_bound» = 0; q = fin false 0 (pos 0) }
+zeros = record { «proof_size» = 0; «max_retries» = 0; «search_width» = 0; «dfs_bound» = 0; x = halvesOf 0 }
 
 -- 01, Lent and given back, refusal 30: u is out of range
 abbrev pub proofSizeOut : ℕ → Bool

@@ -67,7 +67,7 @@ workspaceShort p places table = ltb (length places) (p .«proof_size») || ltb (
 unfoldable pub proverRefusal : Params → List ℕ → List ℕ → List ℕ → List ℕ → List ℕ → List ℕ → ℕ
 proverRefusal p bytes ends marks indexes places table =
     firstNumber
-    (checked p .0
+    (checked p
     ∷ listCheck bytes ends marks indexes
     ∷ cond (workspaceShort p places table) 6 0
     ∷ cond (ltb (length ends) (p .«set_size»)) 10 0

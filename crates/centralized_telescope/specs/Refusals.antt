@@ -7,7 +7,6 @@ use Rattle.centralized_telescope.specs.declared.errors.Refusal.the-varia
 abbrev pub refusalNumber : Refusal → ℕ
 refusalNumber refusal.SetSize = 1  -- settings: set_size
 refusalNumber refusal.Limit = 2  -- settings: another whole number
-refusalNumber refusal.Probability = 3  -- settings: q
 refusalNumber refusal.Malformed = 4  -- list: its form
 refusalNumber refusal.TooLarge = 5  -- list: its size
 refusalNumber refusal.WorkspaceShort = 6  -- prover: what is lent to work in

@@ -4,11 +4,11 @@ use mathlib.Core.List.{List, [], _∷_, _++_}
 use mathlib.Core.Option.{Option, none, some}
 use Prim.Native.Nat.{ℕ}
 use lib.Dec.{eqb}
-use lib.Ieee.{Float}
 use lib.ListN.{take}
 use Rattle.sampling.specs.BigEndian.{bytesOf}
 use Rattle.sampling.specs.Fips180.{sha256}
-use Rattle.sampling.specs.Sample.{uniform, bernoulli}
+use Rattle.sampling.specs.Sample.{uniform, valueOf, bernoulli}
+use Rattle.sampling.specs.declared.sample.U128.{U128}
 use Rattle.centralized_telescope.specs.Elements.{Element, tail}
 
 -- ---- 01, Rounds, labels: their ASCII bytes alone
@@ -52,6 +52,6 @@ roundId n h = drawnBelow n h
 unfoldable pub binOf : ℕ → ℕ → Element → Option ℕ
 binOf n R e = drawnBelow n (sha256 (binLabel ++ (bytesOf 8 R ++ tail e)))
 
--- 01, Search, passing: the yes or no with q, from the hash of a last hash
-unfoldable pub saysYes : Float → List ℕ → Bool
-saysYes q h = eqb (bernoulli (take 16 (sha256 (proofLabel ++ h))) q) 1
+-- 01, Search, passing: the yes or no by X, from the hash of a last hash
+unfoldable pub saysYes : U128 → List ℕ → Bool
+saysYes x h = bernoulli (take 16 (sha256 (proofLabel ++ h))) (valueOf x)

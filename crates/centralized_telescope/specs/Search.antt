@@ -67,7 +67,7 @@ module _ (T : Try) where
 
   -- whether an existing chain passes
   unfoldable pub passing : Chain → Bool
-  passing c = cond (eqb (length (c .places)) (T .settings .«proof_size»)) (saysYes (T .settings .q) (c .last)) false
+  passing c = cond (eqb (length (c .places)) (T .settings .«proof_size»)) (saysYes (T .settings .x) (c .last)) false
 
   -- ---- what is read off the list
 

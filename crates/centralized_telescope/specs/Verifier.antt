@@ -4,8 +4,8 @@ use mathlib.Core.List.{List, [], _∷_}
 use mathlib.Core.Option.{Option, none, some}
 use Prim.Native.Nat.{ℕ}
 use lib.Dec.{leb, eqb}
-use lib.Ieee.{Float}
 use lib.ListN.{length}
+use Rattle.sampling.specs.declared.sample.U128.{U128}
 use Rattle.centralized_telescope.specs.declared.params.Params.{Params}
 use Rattle.centralized_telescope.specs.Params.{checked}
 use Rattle.centralized_telescope.specs.Elements.{Element, elements, listCheck}
@@ -36,9 +36,9 @@ unfoldable pub lastHash : Params → ℕ → ℕ → List Element → Option (Li
 lastHash p R S es = ifSome (roundId (p .«set_size») (startHash R S)) (λ (i : ℕ). follow p R (startHash R S) i es)
 
 -- whether that chain, being of proof_size elements, passes
-abbrev pub yesOn : Float → Option (List ℕ) → Bool
-yesOn q none = false
-yesOn q (some h) = saysYes q h
+abbrev pub yesOn : U128 → Option (List ℕ) → Bool
+yesOn x none = false
+yesOn x (some h) = saysYes x h
 
 -- ---- the verdict
 
@@ -49,12 +49,12 @@ countersOut p R S = leb (p .«search_width») S || leb (p .«max_retries») R
 -- 01, Verifier, the order: a wrong length is 20, a counter out of its limit 21, no chain that passes 22; else 0
 unfoldable pub judged : Params → ℕ → ℕ → List Element → ℕ
 judged p R S es =
-    cond (eqb (length es) (p .«proof_size»)) (cond (countersOut p R S) 21 (cond (yesOn (p .q) (lastHash p R S es)) 0 22)) 20
+    cond (eqb (length es) (p .«proof_size»)) (cond (countersOut p R S) 21 (cond (yesOn (p .x) (lastHash p R S es)) 0 22)) 20
 
 -- the number of the first line that the call meets, or 0
 unfoldable pub verdict : Params → ℕ → ℕ → List ℕ → List ℕ → List ℕ → List ℕ → ℕ
 verdict p R S bytes ends marks indexes =
-    firstNumber (checked p .0 ∷ listCheck bytes ends marks indexes ∷ judged p R S (elements bytes ends marks indexes) ∷ [])
+    firstNumber (checked p ∷ listCheck bytes ends marks indexes ∷ judged p R S (elements bytes ends marks indexes) ∷ [])
 
 -- 01's number for each answer of the verifier
 abbrev pub verdictNumber : Verdict → ℕ

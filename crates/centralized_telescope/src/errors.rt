@@ -9,8 +9,6 @@ pub enum Refusal {
     SetSize,
     // another whole number of the settings is over its limit
     Limit,
-    // q is no number from 0 to 1
-    Probability,
     // the parts of a lent list don't fit together, or a place isn't one of it
     Malformed,
     // too many elements, or too much data in one
@@ -38,7 +36,6 @@ pub fn refusal_number(k: Refusal) -> u32
     match k {
         Refusal::SetSize => 1,
         Refusal::Limit => 2,
-        Refusal::Probability => 3,
         Refusal::Malformed => 4,
         Refusal::TooLarge => 5,
         Refusal::WorkspaceShort => 6,

@@ -3,7 +3,6 @@ ghost use mathlib.Core.Path.{_≡_};
 ghost use mathlib.Core.Bool.{_||_};
 ghost use Prim.Native.Nat.{_/_, _<_, _≤_};
 ghost use lib.ListN.{length, getD};
-ghost use Rattle.sampling.specs.Sample.{valueOf, thresholdOrRefusal};
 ghost use Rattle.centralized_telescope.specs.Elements.{elements, endWrong, dataLong, listCheck, listNumber};
 ghost use Rattle.centralized_telescope.specs.Verifier.{judged, verdictNumber};
 ghost use Rattle.centralized_telescope.specs.Exports.{settingsOf, numbersOf, exportedVerdict};
@@ -120,7 +119,6 @@ fn read_indexes(indexes: &[u8], out: &mut [u64])
 // The judgement on an accepted list of at most 1,024 elements.
 fn judge_bytes(
     p: Params,
-    x: U128,
     retry: RetryCounter,
     search: SearchCounter,
     data: &[u8],
@@ -128,7 +126,7 @@ fn judge_bytes(
     marks: &[u8],
     indexes: &[u8],
 ) -> Verdict
-    requires { ⌜ (thresholdOrRefusal (p .q) ≡ (0, valueOf x)) × (listCheck (now «data») (numbersOf 4 (now ends)) (now marks) (numbersOf 8 (now indexes)) ≡ 0) × (length (now marks) ≤ 1024) ⌝ }
+    requires { ⌜ (listCheck (now «data») (numbersOf 4 (now ends)) (now marks) (numbersOf 8 (now indexes)) ≡ 0) × (length (now marks) ≤ 1024) ⌝ }
     ensures { λ r. ⌜ verdictNumber r ≡ judged p (retry .0) (search .0) (elements (now («data» .entry)) (numbersOf 4 (now (ends .entry))) (now (marks .entry)) (numbersOf 8 (now (indexes .entry)))) ⌝ }
 {
     let n = marks.len();
@@ -138,7 +136,6 @@ fn judge_bytes(
     read_indexes(indexes, &mut index_numbers[..n]);
     judge(
         p,
-        x,
         retry,
         search,
         data,
@@ -160,12 +157,12 @@ fn verify_bytes(
 ) -> Verdict
     ensures { λ r. ⌜ verdictNumber r ≡ exportedVerdict p (retry .0) (search .0) (now («data» .entry)) (now (ends .entry)) (now (marks .entry)) (now (indexes .entry)) ⌝ }
 {
-    let x = match check_params(p) {
-        Checked::Lawful(x) => x,
+    match check_params(p) {
+        Checked::Lawful => {}
         Checked::Refused(k) => {
             return Verdict::Refused(k);
         }
-    };
+    }
     if ends.len() % 4 != 0 {
         return Verdict::Refused(Refusal::Malformed);
     }
@@ -181,11 +178,11 @@ fn verify_bytes(
     if 1024 < marks.len() {
         return Verdict::IncorrectNumberElements;
     }
-    judge_bytes(p, x, retry, search, data, ends, marks, indexes)
+    judge_bytes(p, retry, search, data, ends, marks, indexes)
 }
 
 // 0: the proof is accepted; else the number of the first refusal that it meets. Ends take 4 bytes each and indexes 8, the highest
-// byte first.
+// byte first. X is passed as its high word, then its low.
 #[no_mangle]
 pub extern "C" fn alba_verify(
     set_size: u64,
@@ -193,7 +190,8 @@ pub extern "C" fn alba_verify(
     max_retries: u64,
     search_width: u64,
     dfs_bound: u64,
-    q: f64,
+    x_high: u64,
+    x_low: u64,
     retry_counter: u64,
     search_counter: u64,
     data: &[u8],
@@ -201,7 +199,7 @@ pub extern "C" fn alba_verify(
     marks: &[u8],
     indexes: &[u8],
 ) -> u32
-    ensures { λ r. ⌜ r ≡ exportedVerdict (settingsOf «set_size» «proof_size» «max_retries» «search_width» «dfs_bound» q) «retry_counter» «search_counter» (now («data» .entry)) (now (ends .entry)) (now (marks .entry)) (now (indexes .entry)) ⌝ }
+    ensures { λ r. ⌜ r ≡ exportedVerdict (settingsOf «set_size» «proof_size» «max_retries» «search_width» «dfs_bound» «x_high» «x_low») «retry_counter» «search_counter» (now («data» .entry)) (now (ends .entry)) (now (marks .entry)) (now (indexes .entry)) ⌝ }
 {
     let p = Params {
         set_size,
@@ -209,7 +207,10 @@ pub extern "C" fn alba_verify(
         max_retries,
         search_width,
         dfs_bound,
-        q,
+        x: U128 {
+            hi: x_high,
+            lo: x_low,
+        },
     };
     verdict_number(verify_bytes(
         p,

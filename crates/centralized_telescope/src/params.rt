@@ -6,7 +6,7 @@ use sampling::U128;
 ghost use mathlib.Core.Path.{_≡_};
 ghost use mathlib.Core.Bool.{false};
 ghost use Prim.Native.Nat.{_^_};
-ghost use Rattle.sampling.specs.Sample.{outside};
+ghost use Rattle.sampling.specs.Sample.{outside, xOf};
 ghost use Rattle.centralized_telescope.specs.Params.{notOneTo, proofSizeOut, limitBroken, checked, checkedNumber, completenessOut, floor, ceil, smallSettings, smallCase, smallCaseNumber};
 
 // What prover and verifier are told.
@@ -16,12 +16,13 @@ pub struct Params {
     pub max_retries: u64,
     pub search_width: u64,
     pub dfs_bound: u64,
-    pub q: f64,
+    // X: a last hash passes where its number is below it
+    pub x: U128,
 }
 
-// What the check of the settings answers. Lawful settings come with the threshold of their q, so that no caller works it out again.
+// What the check of the settings answers. Every X is lawful.
 pub enum Checked {
-    Lawful(U128),
+    Lawful,
     Refused(Refusal),
 }
 
@@ -31,7 +32,7 @@ pub struct SmallSettings {
     pub max_retries: u64,
     pub search_width: u64,
     pub dfs_bound: u64,
-    pub q: f64,
+    pub x: U128,
 }
 
 // What the small case answers.
@@ -76,11 +77,7 @@ pub fn check_params(p: Params) -> Checked
     if is_limit_broken(p) {
         return Checked::Refused(Refusal::Limit);
     }
-    let t = sampling::threshold_of(p.q);
-    let Threshold::At(x) = t else {
-        return Checked::Refused(Refusal::Probability);
-    };
-    Checked::Lawful(x)
+    Checked::Lawful
 }
 
 // The double nearest to ln 12.
@@ -119,7 +116,17 @@ fn is_completeness_out(c: f64) -> bool
     c > 65535.0
 }
 
-// The small case's settings, each operation in the order of the source.
+// X of q, or 0 where the converter refuses q. The small case's q is never refused (SmallCaseLaws).
+fn x_of(q: f64) -> U128
+    ensures { λ r. ⌜ r ≡ xOf q ⌝ }
+{
+    match sampling::threshold_of(q) {
+        Threshold::At(x) => x,
+        Threshold::Refused => U128 { hi: 0, lo: 0 },
+    }
+}
+
+// The small case's settings, each operation in the order of the source; X is that of the source's q.
 fn small_settings(u: u64, c: f64) -> SmallSettings
     requires { ⌜ (proofSizeOut u ≡ false) × (completenessOut c ≡ false) ⌝ }
     ensures { λ r. ⌜ r ≡ smallSettings u c ⌝ }
@@ -135,7 +142,7 @@ fn small_settings(u: u64, c: f64) -> SmallSettings
         max_retries,
         search_width,
         dfs_bound,
-        q,
+        x: x_of(q),
     }
 }
 

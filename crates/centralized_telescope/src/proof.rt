@@ -4,7 +4,6 @@ ghost use mathlib.Core.List.{[], _++_};
 ghost use Prim.Native.Nat.{_+_, _*_, _<_, _≤_};
 ghost use lib.ListN.{length, take, drop};
 ghost use lib.Seq.{slice};
-ghost use Rattle.sampling.specs.Sample.{valueOf, thresholdOrRefusal};
 ghost use Rattle.centralized_telescope.specs.Params.{checked};
 ghost use Rattle.centralized_telescope.specs.Elements.{elements, listCheck};
 ghost use Rattle.centralized_telescope.specs.Prover.{provedBy, served};
@@ -23,7 +22,6 @@ use crate::round::next_hash;
 use crate::round::proof_hash;
 use crate::round::round_id;
 use crate::round::start_hash;
-use sampling::U128;
 
 // ---- The search
 
@@ -54,7 +52,6 @@ fn write_places(path: [u32; 1024], n: usize, places: &mut [u32])
 // A chain that exists, by its last round: at full length it passes or doesn't, before that its bin is walked.
 fn visit(
     p: Params,
-    x: U128,
     retry: RetryCounter,
     search: SearchCounter,
     data: &[u8],
@@ -69,7 +66,7 @@ fn visit(
     steps: u64,
     places: &mut [u32],
 ) -> Outcome
-    requires { ⌜ Ready p (valueOf x) (now «data») (now ends) (now marks) (now indexes) (retry .0) (now table) (length (now places)) ⌝ }
+    requires { ⌜ Ready p (now «data») (now ends) (now marks) (now indexes) (retry .0) (now table) (length (now places)) ⌝ }
     requires { ⌜ (id < p .«set_size») × (depth ≤ p .«proof_size») × (steps < p .«dfs_bound») ⌝ }
     ensures { λ r. ⌜ r ≡ outcomeOf (visited (tryOn p (now («data» .entry)) (now (ends .entry)) (now (marks .entry)) (now (indexes .entry)) (retry .0)) (search .0) h id (take depth path) depth steps) ⌝ }
     ensures { λ r. ⌜ now (places .exit) ≡ writtenFrom p depth (visited (tryOn p (now («data» .entry)) (now (ends .entry)) (now (marks .entry)) (now (indexes .entry)) (retry .0)) (search .0) h id (take depth path) depth steps) (now (places .entry)) ⌝ }
@@ -81,7 +78,6 @@ fn visit(
         let to = base + wide(table[i + 1]);
         return walk(
             p,
-            x,
             retry,
             search,
             data,
@@ -98,7 +94,7 @@ fn visit(
             places,
         );
     }
-    if proof_hash(h, x) {
+    if proof_hash(h, p.x) {
         return Outcome::Found(steps + 1);
     }
     Outcome::Missing(steps + 1)
@@ -108,7 +104,6 @@ fn visit(
 // written here, where the path is whole, and not by the visit: that keeps one path to a level of the stack.
 fn walk(
     p: Params,
-    x: U128,
     retry: RetryCounter,
     search: SearchCounter,
     data: &[u8],
@@ -124,7 +119,7 @@ fn walk(
     steps: u64,
     places: &mut [u32],
 ) -> Outcome
-    requires { ⌜ Ready p (valueOf x) (now «data») (now ends) (now marks) (now indexes) (retry .0) (now table) (length (now places)) ⌝ }
+    requires { ⌜ Ready p (now «data») (now ends) (now marks) (now indexes) (retry .0) (now table) (length (now places)) ⌝ }
     requires { ⌜ Span p (now table) from to ⌝ }
     requires { ⌜ (depth < p .«proof_size») × (steps ≤ p .«dfs_bound») ⌝ }
     ensures { λ r. ⌜ r ≡ outcomeOf (walked (tryOn p (now («data» .entry)) (now (ends .entry)) (now (marks .entry)) (now (indexes .entry)) (retry .0)) (search .0) h (take depth path) depth (slice from to (now (table .entry))) steps) ⌝ }
@@ -146,7 +141,6 @@ fn walk(
                 next[depth] = place;
                 let outcome = visit(
                     p,
-                    x,
                     retry,
                     search,
                     data,
@@ -183,7 +177,6 @@ fn walk(
 // One try: its chains, search counter by search counter, over the bin table of its retry counter.
 fn prove_index(
     p: Params,
-    x: U128,
     retry: RetryCounter,
     data: &[u8],
     ends: &[u32],
@@ -192,7 +185,7 @@ fn prove_index(
     table: &[u32],
     places: &mut [u32],
 ) -> Attempt
-    requires { ⌜ Ready p (valueOf x) (now «data») (now ends) (now marks) (now indexes) (retry .0) (now table) (length (now places)) ⌝ }
+    requires { ⌜ Ready p (now «data») (now ends) (now marks) (now indexes) (retry .0) (now table) (length (now places)) ⌝ }
     ensures { λ r. ⌜ r ≡ attemptOf (tried (tryOn p (now («data» .entry)) (now (ends .entry)) (now (marks .entry)) (now (indexes .entry)) (retry .0)) (p .«search_width») 0 0) ⌝ }
     ensures { λ r. ⌜ now (places .exit) ≡ written (tried (tryOn p (now («data» .entry)) (now (ends .entry)) (now (marks .entry)) (now (indexes .entry)) (retry .0)) (p .«search_width») 0 0) (now (places .entry)) ⌝ }
 {
@@ -209,7 +202,6 @@ fn prove_index(
             Id::At(id) => {
                 let outcome = visit(
                     p,
-                    x,
                     retry,
                     search,
                     data,
@@ -264,7 +256,6 @@ pub fn proof_search_number(answer: ProofSearch) -> u32
 // The tries, R from 1 to max_retries, up to the first find.
 pub fn prove_routine(
     p: Params,
-    x: U128,
     data: &[u8],
     ends: &[u32],
     marks: &[u8],
@@ -272,7 +263,7 @@ pub fn prove_routine(
     places: &mut [u32],
     table: &mut [u32],
 ) -> ProofSearch
-    requires { ⌜ (checked p ≡ (0, valueOf x)) × (listCheck (now «data») (now ends) (now marks) (now indexes) ≡ 0) × (p .«proof_size» ≤ length (now places)) × (3 * p .«set_size» + 1 ≤ length (now table)) ⌝ }
+    requires { ⌜ (checked p ≡ 0) × (listCheck (now «data») (now ends) (now marks) (now indexes) ≡ 0) × (p .«proof_size» ≤ length (now places)) × (3 * p .«set_size» + 1 ≤ length (now table)) ⌝ }
     ensures { λ r. ⌜ provedBy r (now (places .exit)) (now (table .exit)) ≡ served p (elements (now («data» .entry)) (now (ends .entry)) (now (marks .entry)) (now (indexes .entry))) (now (places .entry)) (now (table .entry)) ⌝ }
 {
     let mut steps: u64 = 0;
@@ -289,7 +280,7 @@ pub fn prove_routine(
             p.set_size as usize,
             table,
         );
-        let one = prove_index(p, x, retry, data, ends, marks, indexes, table, places);
+        let one = prove_index(p, retry, data, ends, marks, indexes, table, places);
         match one {
             Attempt::Found(search, c) => {
                 return ProofSearch::Found(retry, search, steps + c);
@@ -336,7 +327,6 @@ pub fn verdict_number(v: Verdict) -> u32
 // Whether the chain of an accepted list's elements, from the first to the last, exists and its last hash says yes.
 fn chain_passes(
     p: Params,
-    x: U128,
     retry: RetryCounter,
     search: SearchCounter,
     data: &[u8],
@@ -344,8 +334,8 @@ fn chain_passes(
     marks: &[u8],
     indexes: &[u64],
 ) -> bool
-    requires { ⌜ (thresholdOrRefusal (p .q) ≡ (0, valueOf x)) × (listCheck (now «data») (now ends) (now marks) (now indexes) ≡ 0) ⌝ }
-    ensures { λ r. ⌜ r ≡ yesOn (p .q) (lastHash p (retry .0) (search .0) (elements (now («data» .entry)) (now (ends .entry)) (now (marks .entry)) (now (indexes .entry)))) ⌝ }
+    requires { ⌜ listCheck (now «data») (now ends) (now marks) (now indexes) ≡ 0 ⌝ }
+    ensures { λ r. ⌜ r ≡ yesOn (p .x) (lastHash p (retry .0) (search .0) (elements (now («data» .entry)) (now (ends .entry)) (now (marks .entry)) (now (indexes .entry)))) ⌝ }
 {
     let mut h = start_hash(retry, search);
     let start = round_id(h, p.set_size);
@@ -371,14 +361,12 @@ fn chain_passes(
         id = i;
         followed += 1;
     }
-    proof_hash(h, x)
+    proof_hash(h, p.x)
 }
 
-// The verdict on an accepted list under lawful settings, x being the threshold X of their q: by length, else by counters,
-// else by the chain.
+// The verdict on an accepted list under lawful settings: by length, else by counters, else by the chain.
 pub fn judge(
     p: Params,
-    x: U128,
     retry: RetryCounter,
     search: SearchCounter,
     data: &[u8],
@@ -386,7 +374,7 @@ pub fn judge(
     marks: &[u8],
     indexes: &[u64],
 ) -> Verdict
-    requires { ⌜ (thresholdOrRefusal (p .q) ≡ (0, valueOf x)) × (listCheck (now «data») (now ends) (now marks) (now indexes) ≡ 0) ⌝ }
+    requires { ⌜ listCheck (now «data») (now ends) (now marks) (now indexes) ≡ 0 ⌝ }
     ensures { λ r. ⌜ verdictNumber r ≡ judged p (retry .0) (search .0) (elements (now («data» .entry)) (now (ends .entry)) (now (marks .entry)) (now (indexes .entry))) ⌝ }
 {
     if ends.len() as u64 != p.proof_size {
@@ -398,7 +386,7 @@ pub fn judge(
     if p.max_retries <= retry.0 {
         return Verdict::InvalidParameters;
     }
-    if chain_passes(p, x, retry, search, data, ends, marks, indexes) {
+    if chain_passes(p, retry, search, data, ends, marks, indexes) {
         return Verdict::Accepted;
     }
     Verdict::InvalidProof

@@ -4,16 +4,16 @@ ghost use mathlib.Core.List.{_++_};
 ghost use Prim.Native.Nat.{_+_, _^_, _<_, _≤_};
 ghost use lib.ListN.{length, take};
 ghost use Rattle.sampling.specs.Fips180.{sha256};
-ghost use Rattle.sampling.specs.Sample.{drawNumber, valueOf};
+ghost use Rattle.sampling.specs.Sample.{drawNumber};
 ghost use Rattle.centralized_telescope.specs.Elements.{elements, elementAt, tail, listCheck};
-ghost use Rattle.centralized_telescope.specs.Rounds.{startHash, nextHash, drawn, roundId, binOf};
-ghost use Rattle.centralized_telescope.specs.inner.RoundAnswers.{belowX, idOption};
+ghost use Rattle.centralized_telescope.specs.Rounds.{startHash, nextHash, drawn, roundId, binOf, saysYes};
+ghost use Rattle.centralized_telescope.specs.inner.RoundAnswers.{idOption};
 use crate::types::data_of;
 use crate::types::index_bytes;
 use sampling::Draw;
 use sampling::U128;
-use sampling::below_threshold;
 use sampling::eight_bytes;
+use sampling::sample_bernoulli;
 use sampling::sample_uniform;
 
 // R, the try. A type of its own, so that neither counter can be handed over for the other.
@@ -144,9 +144,9 @@ pub fn bin_hash(
     )
 }
 
-// Whether a chain of full length with the last hash h passes, x being the threshold X of q.
+// Whether a chain of full length with the last hash h passes.
 pub fn proof_hash(h: [u8; 32], x: U128) -> bool
-    ensures { λ r. ⌜ r ≡ belowX (valueOf x) h ⌝ }
+    ensures { λ r. ⌜ r ≡ saysYes x h ⌝ }
 {
-    below_threshold(first_half(digest(b"Telescope-proof_hash", &h, b"", b"")), x)
+    sample_bernoulli(first_half(digest(b"Telescope-proof_hash", &h, b"", b"")), x)
 }

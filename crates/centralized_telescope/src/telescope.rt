@@ -31,12 +31,12 @@ pub fn prove(
 ) -> ProofSearch
     ensures { λ r. ⌜ provedBy r (now (places .exit)) (now (table .exit)) ≡ proved p (now («data» .entry)) (now (ends .entry)) (now (marks .entry)) (now (indexes .entry)) (now (places .entry)) (now (table .entry)) ⌝ }
 {
-    let x = match check_params(p) {
-        Checked::Lawful(x) => x,
+    match check_params(p) {
+        Checked::Lawful => {}
         Checked::Refused(k) => {
             return ProofSearch::Refused(k);
         }
-    };
+    }
     match check_list(data, ends, marks, indexes) {
         ListCheck::Accepted => {}
         ListCheck::Refused(k) => {
@@ -52,7 +52,7 @@ pub fn prove(
     if ends.len() < p.set_size as usize {
         return ProofSearch::Refused(Refusal::NotEnoughElements);
     }
-    prove_routine(p, x, data, ends, marks, indexes, places, table)
+    prove_routine(p, data, ends, marks, indexes, places, table)
 }
 
 // ---- The verifier
@@ -69,26 +69,17 @@ pub fn verify(
 ) -> Verdict
     ensures { λ r. ⌜ verdictNumber r ≡ verdict p («retry_counter» .0) («search_counter» .0) (now («data» .entry)) (now (ends .entry)) (now (marks .entry)) (now (indexes .entry)) ⌝ }
 {
-    let x = match check_params(p) {
-        Checked::Lawful(x) => x,
+    match check_params(p) {
+        Checked::Lawful => {}
         Checked::Refused(k) => {
             return Verdict::Refused(k);
         }
-    };
+    }
     match check_list(data, ends, marks, indexes) {
         ListCheck::Accepted => {}
         ListCheck::Refused(k) => {
             return Verdict::Refused(k);
         }
     }
-    judge(
-        p,
-        x,
-        retry_counter,
-        search_counter,
-        data,
-        ends,
-        marks,
-        indexes,
-    )
+    judge(p, retry_counter, search_counter, data, ends, marks, indexes)
 }

@@ -9,12 +9,14 @@ use centralized_telescope::RetryCounter;
 use centralized_telescope::SearchCounter;
 use centralized_telescope::proof_search_number;
 use centralized_telescope::verdict_number;
+use sampling::U128;
 use text::one_if;
 use text::outcome::say_outcome;
 use text::say::say;
 use text::say::say_number;
 
-// One bin, and in it one element: a chain of each length, which the bound just admits. The verifier wants R below max_retries.
+// One bin, and in it one element: a chain of each length, which the bound just admits. The verifier wants R below max_retries. X is the
+// greatest: one hash in 2^128 doesn't pass.
 fn settings() -> Params {
     Params {
         set_size: 1,
@@ -22,7 +24,10 @@ fn settings() -> Params {
         max_retries: 2,
         search_width: 1,
         dfs_bound: 1025,
-        q: 1.0,
+        x: U128 {
+            hi: u64::MAX,
+            lo: u64::MAX,
+        },
     }
 }
 

@@ -27,20 +27,21 @@ served m out last digest k l h e p =
 
 -- ---- the small case
 
--- five stores fill a list of five
-pub five-set : (l : List ℕ) (a b c d e : ℕ) → length l ≡ 5 → set (set (set (set (set l 0 a) 1 b) 2 c) 3 d) 4 e ≡ a ∷ b ∷ c ∷ d ∷ e ∷ []
-five-set l a b c d e h =
-    sets-eq (a ∷ b ∷ c ∷ d ∷ e ∷ []) l 0 (omega arith)
-    ∙ ap (λ (r : List ℕ). a ∷ b ∷ c ∷ d ∷ e ∷ r) (drop-of-length-le l {i = 5} (omega arith))
+-- six stores fill a list of six
+pub six-set : (l : List ℕ) (a b c d e f : ℕ) → length l ≡ 6
+    → set (set (set (set (set (set l 0 a) 1 b) 2 c) 3 d) 4 e) 5 f ≡ a ∷ b ∷ c ∷ d ∷ e ∷ f ∷ []
+six-set l a b c d e f h =
+    sets-eq (a ∷ b ∷ c ∷ d ∷ e ∷ f ∷ []) l 0 (omega arith)
+    ∙ ap (λ (r : List ℕ). a ∷ b ∷ c ∷ d ∷ e ∷ f ∷ r) (drop-of-length-le l {i = 6} (omega arith))
 
-pub not-five : (u : ℕ) (c : Float) (out : List ℕ) → (length out ≡ 5 → ⊥) → (8, out) ≡ exportedSmallCase u c out
+pub not-six : (u : ℕ) (c : Float) (out : List ℕ) → (length out ≡ 6 → ⊥) → (8, out) ≡ exportedSmallCase u c out
 unfolding exportedSmallCase
-not-five u c out h = rw (ne-eqb (length out) 5 h)
+not-six u c out h = rw (ne-eqb (length out) 6 h)
 
-pub answered : (u : ℕ) (c : Float) (out : List ℕ) (k : ℕ) (s : SmallSettings) (a : ℕ × List ℕ) → length out ≡ 5 → (k, s) ≡ smallCase u c
+pub answered : (u : ℕ) (c : Float) (out : List ℕ) (k : ℕ) (s : SmallSettings) (a : ℕ × List ℕ) → length out ≡ 6 → (k, s) ≡ smallCase u c
     → a ≡ withSettings k s out → a ≡ exportedSmallCase u c out
 unfolding exportedSmallCase
-answered u c out k s a h e p = rw (eq-eqb (length out) 5 h, ← e) p
+answered u c out k s a h e p = rw (eq-eqb (length out) 6 h, ← e) p
 
 pub not-settled : (k : ℕ) (s : SmallSettings) (out : List ℕ) → (k ≡ 0 → ⊥) → (k, out) ≡ withSettings k s out
 not-settled zero s out n = absurd (n refl)

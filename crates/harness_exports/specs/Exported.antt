@@ -3,7 +3,7 @@ use mathlib.Core.Bool.{Bool, cond}
 use mathlib.Core.List.{List, [], _∷_}
 use Prim.Native.Nat.{ℕ, zero, suc}
 use lib.Dec.{eqb, leb}
-use lib.Ieee.{Float, binary64, toBits}
+use lib.Ieee.{Float}
 use lib.ListN.{length, drop}
 use Rattle.sampling.specs.Hash.{hashed}
 use Rattle.centralized_telescope.specs.Distinct.{distinct}
@@ -23,18 +23,18 @@ use Rattle.centralized_telescope.specs.declared.params.SmallSettings.{SmallSett
 unfoldable pub exportedHash : List ℕ → List ℕ → ℕ × List ℕ
 exportedHash m out = cond (eqb (length out) 32) (hashed m) (8, out)
 
--- settings as five numbers, q by its bits
-abbrev pub five : SmallSettings → List ℕ
-five s = s .«proof_size» ∷ s .«max_retries» ∷ s .«search_width» ∷ s .«dfs_bound» ∷ toBits binary64 (s .q) ∷ []
+-- settings as six numbers, X by its high word and its low
+abbrev pub six : SmallSettings → List ℕ
+six s = s .«proof_size» ∷ s .«max_retries» ∷ s .«search_width» ∷ s .«dfs_bound» ∷ s .x .hi ∷ s .x .lo ∷ []
 
 -- 0 with the settings in the lent numbers, or a refusal's number with the lent numbers as they were
 abbrev pub withSettings : ℕ → SmallSettings → List ℕ → ℕ × List ℕ
-withSettings zero s out = (0, five s)
+withSettings zero s out = (0, six s)
 withSettings (suc k) s out = (suc k, out)
 
--- the small case: its number, and the lent numbers afterwards; 8 where they aren't five
+-- the small case: its number, and the lent numbers afterwards; 8 where they aren't six
 unfoldable pub exportedSmallCase : ℕ → Float → List ℕ → ℕ × List ℕ
-exportedSmallCase u c out = cond (eqb (length out) 5) (withSettings (smallCase u c .0) (smallCase u c .1) out) (8, out)
+exportedSmallCase u c out = cond (eqb (length out) 6) (withSettings (smallCase u c .0) (smallCase u c .1) out) (8, out)
 
 -- the yes as 0, the no as 1, or a refusal's number
 abbrev pub said : ℕ → Bool → ℕ

@@ -1,12 +1,9 @@
 // Calls that the Rust harness alone makes, on numbers and byte slices. They are no part of what a loader links.
 ghost use mathlib.Core.Path.{_≡_};
-ghost use mathlib.Core.Bool.{not};
 ghost use mathlib.Core.List.{_++_};
-ghost use lib.Dec.{T};
-ghost use lib.Ieee.{isNan};
 ghost use lib.ListN.{length};
 ghost use Rattle.centralized_telescope.specs.Exports.{settingsOf};
-ghost use Rattle.harness_exports.specs.Exported.{exportedHash, five, exportedSmallCase, exportedDistinct, withoutProof, numbersOf, withCounters, exportedProve, blocksNumbers, withBlocks, exportedWriteTicket, readNumbers, withRead, exportedReadTicket};
+ghost use Rattle.harness_exports.specs.Exported.{exportedHash, six, exportedSmallCase, exportedDistinct, withoutProof, numbersOf, withCounters, exportedProve, blocksNumbers, withBlocks, exportedWriteTicket, readNumbers, withRead, exportedReadTicket};
 use centralized_telescope::Distinctness;
 use centralized_telescope::Params;
 use centralized_telescope::ProofSearch;
@@ -18,6 +15,7 @@ use centralized_telescope::TicketBlocks;
 use centralized_telescope::TicketProof;
 use centralized_telescope::proof_search_number;
 use centralized_telescope::refusal_number;
+use sampling::U128;
 
 // SHA-256 of four strings joined into 32 lent bytes: 0 with the digest, 9 with zeros, or 8 with nothing written where `out`
 // isn't 32 bytes.
@@ -34,25 +32,27 @@ pub extern "C" fn alba_sha256(a: &[u8], b: &[u8], c: &[u8], d: &[u8], out: &mut 
     hashed.number
 }
 
-// Settings as five numbers.
+// Settings as six numbers.
 fn put_settings(s: SmallSettings, out: &mut [u64])
-    requires { ⌜ (length (now out) ≡ 5) × T (not (isNan (s .q))) ⌝ }
-    ensures { λ r. ⌜ now (out .exit) ≡ five s ⌝ }
+    requires { ⌜ length (now out) ≡ 6 ⌝ }
+    ensures { λ r. ⌜ now (out .exit) ≡ six s ⌝ }
 {
     out[0] = s.proof_size;
     out[1] = s.max_retries;
     out[2] = s.search_width;
     out[3] = s.dfs_bound;
-    out[4] = f64::to_bits(s.q);
+    let x = s.x;
+    out[4] = x.hi;
+    out[5] = x.lo;
 }
 
-// The small case's settings into five lent numbers, proof_size, max_retries, search_width, dfs_bound and the bits of q: 0, or 30
-// or 31, or 8 where `out` isn't five numbers; nothing is written then.
+// The small case's settings into six lent numbers, proof_size, max_retries, search_width, dfs_bound and the halves of X, the high one
+// first: 0, or 30 or 31, or 8 where `out` isn't six numbers; nothing is written then.
 #[no_mangle]
 pub extern "C" fn alba_small_case(u: u64, c: f64, out: &mut [u64]) -> u32
     ensures { λ r. ⌜ (r, now (out .exit)) ≡ exportedSmallCase u c (now (out .entry)) ⌝ }
 {
-    if out.len() != 5 {
+    if out.len() != 6 {
         return 8;
     }
     let answer = centralized_telescope::param_small_case(u, c);
@@ -131,7 +131,7 @@ fn put_counters(n: Numbers, out: &mut [u64])
     }
 }
 
-// The prover: 0 or the number. `out` takes R, S and the step count where it has three numbers or more.
+// The prover: 0 or the number. X is passed as its high word, then its low. `out` takes R, S and the step count where it has three numbers or more.
 #[no_mangle]
 pub extern "C" fn alba_prove(
     set_size: u64,
@@ -139,7 +139,8 @@ pub extern "C" fn alba_prove(
     max_retries: u64,
     search_width: u64,
     dfs_bound: u64,
-    q: f64,
+    x_high: u64,
+    x_low: u64,
     data: &[u8],
     ends: &[u32],
     marks: &[u8],
@@ -148,7 +149,7 @@ pub extern "C" fn alba_prove(
     table: &mut [u32],
     out: &mut [u64],
 ) -> u32
-    ensures { λ r. ⌜ (r, now (places .exit), now (table .exit), now (out .exit)) ≡ exportedProve (settingsOf «set_size» «proof_size» «max_retries» «search_width» «dfs_bound» q) (now («data» .entry)) (now (ends .entry)) (now (marks .entry)) (now (indexes .entry)) (now (places .entry)) (now (table .entry)) (now (out .entry)) ⌝ }
+    ensures { λ r. ⌜ (r, now (places .exit), now (table .exit), now (out .exit)) ≡ exportedProve (settingsOf «set_size» «proof_size» «max_retries» «search_width» «dfs_bound» «x_high» «x_low») (now («data» .entry)) (now (ends .entry)) (now (marks .entry)) (now (indexes .entry)) (now (places .entry)) (now (table .entry)) (now (out .entry)) ⌝ }
 {
     let p = Params {
         set_size,
@@ -156,7 +157,10 @@ pub extern "C" fn alba_prove(
         max_retries,
         search_width,
         dfs_bound,
-        q,
+        x: U128 {
+            hi: x_high,
+            lo: x_low,
+        },
     };
     let answer = centralized_telescope::prove(p, data, ends, marks, indexes, places, table);
     let n = numbers_of(answer);

@@ -1,5 +1,6 @@
 // The program's arguments.
 use proof_files::say_wrong;
+use sampling::U128;
 use text::double;
 use text::hex;
 use text::number;
@@ -9,6 +10,12 @@ use text::number::Number;
 pub struct Double {
     pub known: bool,
     pub value: f64,
+}
+
+// A number of 128 bits, where an argument writes one.
+pub struct Wide {
+    pub known: bool,
+    pub value: U128,
 }
 
 // Argument i as the number that it writes in decimal, or a message.
@@ -33,15 +40,29 @@ fn double_of(read: Number) -> Double {
     }
 }
 
-// Argument i as the double whose bits it writes, or a message.
-pub fn probability(i: usize, name: &[u8]) -> Double {
+// Only of 32 digits do both halves have 16.
+fn wide_of(word: &[u8]) -> Wide {
+    let half = word.len() / 2;
+    let high = hex::sixteen_digits(&word[0..half]);
+    let low = hex::sixteen_digits(&word[half..]);
+    Wide {
+        known: high.known && low.known,
+        value: U128 {
+            hi: high.value,
+            lo: low.value,
+        },
+    }
+}
+
+// Argument i as the X whose digits it writes, or a message.
+pub fn threshold(i: usize, name: &[u8]) -> Wide {
     let mut word = [0u8; 32];
     let n = os::arg(i, &mut word);
-    let read = hex::sixteen_digits(&word[..n]);
+    let read = wide_of(&word[..n]);
     if !read.known {
-        say_wrong(i, name, b"16 hexadecimal digits, small letters");
+        say_wrong(i, name, b"32 hexadecimal digits, small letters");
     }
-    double_of(read)
+    read
 }
 
 // A whole number as a double. From 65,536 on all are refused alike, so the double is 65,536.

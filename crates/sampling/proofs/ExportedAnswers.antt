@@ -1,14 +1,17 @@
 -- The exported calls' answers, by the tests that they make.
-use mathlib.Core.Path.{_≡_, refl, ap, _∙_}
-use mathlib.Core.List.{List}
-use Prim.Native.Nat.{ℕ, zero, suc}
+use mathlib.Core.Path.{_≡_, refl, sym, ap, _∙_}
+use mathlib.Core.Bool.{Bool, cond}
+use mathlib.Core.List.{List, [], _∷_}
+use Prim.Native.Nat.{ℕ, zero, suc, _^_, _<_}
 use native.Mathlib.Omega.{arith}
 use borrow.Author.Tests.{eq-eqb, ne-eqb}
-use lib.ListN.{length}
+use lib.ListN.{length, set}
 use lib.Ieee.{Float}
 use Rattle.sampling.specs.BigEndian.{bytesOf}
-use Rattle.sampling.specs.Sample.{uniform, bernoulli}
-use Rattle.sampling.specs.Exports.{withLent, exportedUniform, exportedBernoulli}
+use Rattle.sampling.specs.Sample.{uniform, thresholdOrRefusal, valueOf, bernoulli}
+use Rattle.sampling.specs.laws.SampleLaws.{halves-of}
+use Rattle.sampling.specs.declared.sample.U128.{U128}
+use Rattle.sampling.specs.Exports.{withLent, exportedUniform, exportedBernoulli, withHalves, exportedThreshold}
 
 -- ---- the draw
 
@@ -43,13 +46,39 @@ unfolding withLent
 none-touched zero v out z = absurd (z refl)
 none-touched (suc k) v out z = refl
 
--- ---- the draw with a probability
+-- ---- the yes or no
 
-module _ (h : List ℕ) (q : Float) where
-  pub chance-h-refused : (length h ≡ 16 → ⊥) → 8 ≡ exportedBernoulli h q
+module _ (h : List ℕ) (x : U128) where
+  pub chance-h-refused : (length h ≡ 16 → ⊥) → 8 ≡ exportedBernoulli h x
   unfolding exportedBernoulli
   chance-h-refused L = rw (ne-eqb (length h) 16 L)
 
-  pub chance-told : length h ≡ 16 → bernoulli h q ≡ exportedBernoulli h q
+  pub chance-told : length h ≡ 16 → (t : Bool) → t ≡ bernoulli h (valueOf x) → cond t 1 0 ≡ exportedBernoulli h x
   unfolding exportedBernoulli
-  chance-told L = rw (eq-eqb (length h) 16 L)
+  chance-told L t e = rw (eq-eqb (length h) 16 L, e)
+
+-- ---- the converter
+
+both-set : (out : List ℕ) (a b : ℕ) → length out ≡ 2 → set (set out 0 a) 1 b ≡ a ∷ b ∷ []
+both-set [] a b e = absurd (omega arith)
+both-set (x ∷ []) a b e = absurd (omega arith)
+both-set (x ∷ y ∷ []) a b e = refl
+both-set (x ∷ y ∷ z ∷ out) a b e = absurd (omega arith)
+
+-- both halves, with 0
+abbrev filled : U128 → ℕ × List ℕ
+filled x = (0, x .hi ∷ x .lo ∷ [])
+
+module _ (q : Float) (out : List ℕ) where
+  pub room-refused : (length out ≡ 2 → ⊥) → (8, out) ≡ exportedThreshold q out
+  unfolding exportedThreshold
+  room-refused L = rw (ne-eqb (length out) 2 L)
+
+  pub q-refused : length out ≡ 2 → thresholdOrRefusal q ≡ (3, 0) → (3, out) ≡ exportedThreshold q out
+  unfolding exportedThreshold withHalves
+  q-refused L e = rw (eq-eqb (length out) 2 L, e)
+
+  pub q-converted : (L : length out ≡ 2) (x : U128) → x .lo < 2 ^ 64 → thresholdOrRefusal q ≡ (0, valueOf x)
+      → (0, set (set out 0 (x .hi)) 1 (x .lo)) ≡ exportedThreshold q out
+  unfolding exportedThreshold withHalves
+  q-converted L x l e = rw (eq-eqb (length out) 2 L, e, both-set out (x .hi) (x .lo) L) (ap filled (sym (halves-of x l)))

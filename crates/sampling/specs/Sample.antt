@@ -8,10 +8,8 @@ use lib.Ieee.{Float, nan, inf, fin, up, down, lt, isNan}
 use Rattle.sampling.specs.BigEndian.{bigEndian}
 use Rattle.sampling.specs.declared.sample.U128.{U128}
 use Rattle.sampling.specs.declared.sample.Draw.{Draw}
-use Rattle.sampling.specs.declared.sample.Chance.{Chance}
 use Rattle.sampling.specs.declared.sample.Threshold.{Threshold}
 use Rattle.sampling.specs.declared.sample.Draw.the-variants as draw
-use Rattle.sampling.specs.declared.sample.Chance.the-variants as chance
 use Rattle.sampling.specs.declared.sample.Threshold.the-variants as at
 
 -- 01, Sampler, powers of two: n is one of 2 ^ 0, .. 2 ^ (k - 1)
@@ -55,7 +53,7 @@ threshold nan = 0
 threshold (inf s) = 2 ^ 128 - 1
 threshold (fin s m e) = min (floorOf m e) (2 ^ 128 - 1)
 
--- X with the refusal, as a number and X. 0: X; 3: refused
+-- the converter (02, N4), as a number and X. 0: X; 3: refused
 unfoldable pub thresholdOrRefusal : Float → ℕ × ℕ
 thresholdOrRefusal q = cond (outsideUnit q) (3, 0) (0, threshold q)
 
@@ -63,17 +61,19 @@ thresholdOrRefusal q = cond (outsideUnit q) (3, 0) (0, threshold q)
 abbrev pub valueOf : U128 → ℕ
 valueOf w = w .hi * 2 ^ 64 + w .lo
 
+-- the two halves of a number of 128 bits
+abbrev pub halvesOf : ℕ → U128
+halvesOf X = record { hi = X / 2 ^ 64; lo = X % 2 ^ 64 }
+
+-- X of q as the converter gives it, in two halves
+abbrev pub xOf : Float → U128
+xOf q = halvesOf (thresholdOrRefusal q .1)
+
 -- 01's number and X for each answer of `threshold_of`
 abbrev pub thresholdNumber : Threshold → ℕ × ℕ
 thresholdNumber (at.At w) = (0, valueOf w)
 thresholdNumber at.Refused = (3, 0)
 
--- 01, Sampler, `sample_bernoulli`, as a number. 1: yes, i < X; 0: no; 3: refused
-unfoldable pub bernoulli : List ℕ → Float → ℕ
-bernoulli h q = cond (outsideUnit q) 3 (cond (ltb (bigEndian 16 h) (threshold q)) 1 0)
-
--- 01's number for each answer of a draw with a probability
-abbrev pub chanceNumber : Chance → ℕ
-chanceNumber chance.Yes = 1
-chanceNumber chance.No = 0
-chanceNumber chance.Refused = 3
+-- 01, Sampler, `sample_bernoulli`, by X (02, N4): yes exactly when i < X
+unfoldable pub bernoulli : List ℕ → ℕ → Bool
+bernoulli h X = ltb (bigEndian 16 h) X

@@ -1,14 +1,16 @@
-// The sampler as C and Rust call it: h and the draw's bytes are lent slices, and the answer is a number.
+// Sampler and converter as C and Rust call them: h, the draw's bytes and X's two words are lent slices, and the answer is a number.
 
 ghost use mathlib.Core.Path.{_≡_};
 ghost use lib.ListN.{length};
-ghost use Rattle.sampling.specs.Sample.{drawNumber, chanceNumber};
-ghost use Rattle.sampling.specs.Exports.{exportedUniform, exportedBernoulli};
+ghost use Rattle.sampling.specs.Sample.{drawNumber};
+ghost use Rattle.sampling.specs.Exports.{exportedUniform, exportedBernoulli, exportedThreshold};
 use crate::big_endian;
-use crate::sample::Chance;
 use crate::sample::Draw;
+use crate::sample::Threshold;
+use crate::sample::U128;
 use crate::sample::sample_bernoulli;
 use crate::sample::sample_uniform;
+use crate::sample::threshold_of;
 
 // The 16 bytes lent, by value.
 fn seed_of(h: &[u8]) -> [u8; 16]
@@ -42,17 +44,6 @@ fn draw_value(d: Draw) -> u64
     }
 }
 
-// The number of an answer of a draw with a probability.
-fn chance_number(c: Chance) -> u32
-    ensures { λ r. ⌜ r ≡ chanceNumber c ⌝ }
-{
-    match c {
-        Chance::Yes => 1,
-        Chance::No => 0,
-        Chance::Refused => 3,
-    }
-}
-
 // 0 with the value drawn in the 8 bytes of `out`, the highest first; otherwise `out` is untouched and the answer is
 // 1: no draw; 7: n is 0; 8: h's length isn't 16, or `out`'s isn't 8.
 #[no_mangle]
@@ -76,13 +67,38 @@ pub extern "C" fn alba_sample_uniform(h: &[u8], n: u64, out: &mut [u8]) -> u32
     number
 }
 
-// 1: yes; 0: no; 8: h's length isn't 16; 3: q is no number from 0 to 1.
+// 1: yes; 0: no; 8: h's length isn't 16. X is passed as its high word, then its low.
 #[no_mangle]
-pub extern "C" fn alba_sample_bernoulli(h: &[u8], q: f64) -> u32
-    ensures { λ r. ⌜ r ≡ exportedBernoulli (now (h .entry)) q ⌝ }
+pub extern "C" fn alba_sample_bernoulli(h: &[u8], x_high: u64, x_low: u64) -> u32
+    ensures { λ r. ⌜ r ≡ exportedBernoulli (now (h .entry)) (record { hi = «x_high»; lo = «x_low» }) ⌝ }
 {
     if h.len() != 16 {
         return 8;
     }
-    chance_number(sample_bernoulli(seed_of(h), q))
+    let x = U128 {
+        hi: x_high,
+        lo: x_low,
+    };
+    if sample_bernoulli(seed_of(h), x) {
+        return 1;
+    }
+    0
+}
+
+// 0 with the halves of q's X in the two numbers of `out`, the high one first; otherwise `out` is untouched and the answer is
+// 8: `out` isn't two numbers; 3: q is no number from 0 to 1.
+#[no_mangle]
+pub extern "C" fn alba_threshold(q: f64, out: &mut [u64]) -> u32
+    ensures { λ r. ⌜ (r, now (out .exit)) ≡ exportedThreshold q (now (out .entry)) ⌝ }
+{
+    if out.len() != 2 {
+        return 8;
+    }
+    let t = threshold_of(q);
+    let Threshold::At(x) = t else {
+        return 3;
+    };
+    out[0] = x.hi;
+    out[1] = x.lo;
+    0
 }

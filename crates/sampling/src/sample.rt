@@ -3,9 +3,8 @@
 ghost use mathlib.Core.Path.{_≡_};
 ghost use mathlib.Core.Bool.{true, false};
 ghost use Prim.Native.Nat.{_+_, _-_, _*_, _^_, _%_, _≤_, _<_};
-ghost use lib.Dec.{ltb};
 ghost use Rattle.sampling.specs.BigEndian.{bigEndian};
-ghost use Rattle.sampling.specs.Sample.{isPower, modNotPower, uniform, drawNumber, outsideUnit, threshold, thresholdOrRefusal, thresholdNumber, bernoulli, chanceNumber, valueOf};
+ghost use Rattle.sampling.specs.Sample.{isPower, modNotPower, uniform, drawNumber, outsideUnit, threshold, thresholdOrRefusal, thresholdNumber, bernoulli, valueOf};
 use crate::big_endian::number_of;
 
 // A number of 128 bits: hi * 2^64 + lo.
@@ -18,13 +17,6 @@ pub struct U128 {
 pub enum Draw {
     Value(u64),
     NoDraw,
-    Refused,
-}
-
-// What a draw with a probability answers.
-pub enum Chance {
-    Yes,
-    No,
     Refused,
 }
 
@@ -191,7 +183,7 @@ fn unit_threshold(q: f64) -> U128
     }
 }
 
-// X of the probability q. Refused: q is no number from 0 to 1.
+// The converter: X of the probability q. Refused: q is no number from 0 to 1.
 pub fn threshold_of(q: f64) -> Threshold
     ensures { λ r. ⌜ thresholdNumber r ≡ thresholdOrRefusal q ⌝ }
 {
@@ -201,27 +193,13 @@ pub fn threshold_of(q: f64) -> Threshold
     Threshold::At(unit_threshold(q))
 }
 
-// Whether the 16 bytes, as one number, are below x.
-pub fn below_threshold(h: [u8; 16], x: U128) -> bool
-    ensures { λ r. ⌜ r ≡ ltb (bigEndian 16 h) (valueOf x) ⌝ }
+// Yes where the 16 bytes, as one number, are below X. Every X is lawful.
+pub fn sample_bernoulli(h: [u8; 16], x: U128) -> bool
+    ensures { λ r. ⌜ r ≡ bernoulli h (valueOf x) ⌝ }
 {
     let i = u128_of(h);
     if i.hi == x.hi {
         return i.lo < x.lo;
     }
     i.hi < x.hi
-}
-
-// Yes with the probability q. Refused: q is no number from 0 to 1.
-pub fn sample_bernoulli(h: [u8; 16], q: f64) -> Chance
-    ensures { λ r. ⌜ chanceNumber r ≡ bernoulli h q ⌝ }
-{
-    let t = threshold_of(q);
-    let Threshold::At(x) = t else {
-        return Chance::Refused;
-    };
-    if below_threshold(h, x) {
-        return Chance::Yes;
-    }
-    Chance::No
 }

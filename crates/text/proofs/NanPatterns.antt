@@ -3,7 +3,7 @@ use Prim.Native.Nat.{ℕ, _%_, _/_}
 use mathlib.Core.Path.{_≡_, refl}
 use mathlib.Core.Bool.{Bool, true, false, not, _&&_}
 use lib.Dec.{T, eqb}
-use lib.Ieee.{Float, nan, inf, fin, binary64, nanBits, isNan, ofBits, ofFields, eq, ne, div}
+use lib.Ieee.{binary64, nanBits, ofBits, ofFields, div}
 use native.Mathlib.Omega.{arith}
 use borrow.Author.Tests.{eq-eqb, ne-eqb}
 
@@ -26,10 +26,3 @@ module _ (b : ℕ) where
       div binary64 (ofBits binary64 0) (ofBits binary64 0) ≡ ofBits binary64 b
   unfolding ofBits ofFields div
   nan-pattern e d = rw (e, ne-eqb _ _ d) refl
-
--- a double that isn't other than itself is no NaN
-pub equals-itself : (x : Float) → ne x x ≡ false → T (not (isNan x))
-unfolding eq ne isNan
-equals-itself nan h = let z : _≡_ {A = ℕ} 0 1 = cc in omega arith
-equals-itself (inf s) h = tt
-equals-itself (fin s m e) h = tt

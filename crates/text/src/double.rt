@@ -14,11 +14,3 @@ pub fn of_bits(bits: u64) -> f64
     }
     0.0 / 0.0
 }
-
-// The bits of a double, and one NaN's of each NaN.
-pub fn bits_of(x: f64) -> u64 {
-    if x != x {
-        return 0x7ff8_0000_0000_0000;
-    }
-    f64::to_bits(x)
-}

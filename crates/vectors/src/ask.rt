@@ -6,8 +6,8 @@ use crate::said::Said;
 use centralized_telescope::SmallCase;
 use centralized_telescope::SmallSettings;
 use centralized_telescope::refusal_number;
-use sampling::Chance;
 use sampling::Draw;
+use sampling::Threshold;
 use text::double;
 use text::number::Number;
 use text::words;
@@ -63,7 +63,7 @@ pub fn uniform(question: &[u8], out: &mut [u8]) -> Said
     }
 }
 
-// bernoulli H Q
+// bernoulli H Q: the converter makes X of q, and the sampler takes X.
 pub fn bernoulli(question: &[u8], out: &mut [u8]) -> Said
     ensures { λ r. ⌜ r .len ≤ length (now (out .exit)) ⌝ }
 {
@@ -73,15 +73,17 @@ pub fn bernoulli(question: &[u8], out: &mut [u8]) -> Said
         return said::nothing();
     }
     let bytes = h.bytes;
-    let chance = sampling::sample_bernoulli(bytes, q.value);
-    match chance {
-        Chance::Yes => said::one(out, 1),
-        Chance::No => said::one(out, 0),
-        Chance::Refused => said::one(out, 3),
+    let threshold = sampling::threshold_of(q.value);
+    match threshold {
+        Threshold::At(x) => said::one(
+            out,
+            text::one_if(sampling::sample_bernoulli(bytes, x)) as u64,
+        ),
+        Threshold::Refused => said::one(out, 3),
     }
 }
 
-// The small case's settings: 0, every setting but set_size, and the bits of q.
+// The small case's settings: 0, every setting but set_size, and X.
 fn said_settings(s: SmallSettings, out: &mut [u8]) -> Said
     ensures { λ r. ⌜ r .len ≤ length (now (out .exit)) ⌝ }
 {
@@ -90,7 +92,7 @@ fn said_settings(s: SmallSettings, out: &mut [u8]) -> Said
     let retries = said::put_number(out, size, s.max_retries);
     let width = said::put_number(out, retries, s.search_width);
     let bound = said::put_number(out, width, s.dfs_bound);
-    said::whole(said::put_bits(out, bound, double::bits_of(s.q)))
+    said::whole(said::put_x(out, bound, s.x))
 }
 
 // small U C

@@ -12,14 +12,26 @@ use centralized_telescope::SearchCounter;
 use centralized_telescope::proof_search_number;
 use centralized_telescope::refusal_number;
 use centralized_telescope::verdict_number;
+use sampling::Threshold;
+use sampling::U128;
 use text::words;
 
 // Stands in each place before a search: no list has so many elements.
 const MARK: u32 = 0xffff_ffff;
 
-// Settings, where a question writes them after its first word.
+// The converter's refusal, which comes before any other: without X there are no settings.
+const Q_REFUSED: u64 = 3;
+
+// X of a question's q. Where the converter refuses q, X is 0 here and isn't used.
+struct Converted {
+    is_refused: bool,
+    x: U128,
+}
+
+// Settings, where a question writes them after its first word, with q in place of X.
 struct KnownSettings {
     known: bool,
+    is_q_refused: bool,
     params: Params,
 }
 
@@ -45,6 +57,20 @@ pub fn distinct(
     }
 }
 
+fn convert(q: f64) -> Converted {
+    let threshold = sampling::threshold_of(q);
+    match threshold {
+        Threshold::At(x) => Converted {
+            is_refused: false,
+            x,
+        },
+        Threshold::Refused => Converted {
+            is_refused: true,
+            x: U128 { hi: 0, lo: 0 },
+        },
+    }
+}
+
 // SET_SIZE PROOF_SIZE MAX_RETRIES SEARCH_WIDTH DFS_BOUND Q
 fn read_settings(question: &[u8]) -> KnownSettings {
     let set_size = ask::read_number(question, 1);
@@ -53,16 +79,18 @@ fn read_settings(question: &[u8]) -> KnownSettings {
     let search_width = ask::read_number(question, 4);
     let dfs_bound = ask::read_number(question, 5);
     let q = ask::read_double(question, 6);
+    let converted = convert(q.value);
     let sizes_known = set_size.known && proof_size.known && max_retries.known;
     KnownSettings {
         known: sizes_known && search_width.known && dfs_bound.known && q.known,
+        is_q_refused: converted.is_refused,
         params: Params {
             set_size: set_size.value,
             proof_size: proof_size.value,
             max_retries: max_retries.value,
             search_width: search_width.value,
             dfs_bound: dfs_bound.value,
-            q: q.value,
+            x: converted.x,
         },
     }
 }
@@ -132,9 +160,12 @@ pub fn prove(
     if !p.known || words::count(question) != 7 {
         return said::nothing();
     }
+    let params = p.params;
+    if p.is_q_refused {
+        return said::one(out, Q_REFUSED);
+    }
     let mut places = [MARK; 1040];
     let mut table = [0u32; 3001];
-    let params = p.params;
     let answer = centralized_telescope::prove(
         params,
         data,
@@ -169,6 +200,9 @@ pub fn verify(
     let search = ask::read_number(question, 8);
     if !p.known || !retry.known || !search.known || words::count(question) != 9 {
         return said::nothing();
+    }
+    if p.is_q_refused {
+        return said::one(out, Q_REFUSED);
     }
     let verdict = centralized_telescope::verify(
         p.params,

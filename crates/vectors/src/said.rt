@@ -2,6 +2,7 @@
 ghost use Prim.Native.Nat.{_≤_};
 ghost use lib.ListN.{length};
 ghost use Rattle.io.specs.Counts.{Counts};
+use sampling::U128;
 use text::least;
 
 // Whether there is an answer, and how long it is.
@@ -58,13 +59,22 @@ pub fn put_number(out: &mut [u8], at: usize, n: u64) -> usize
     put_word(out, at, &digits[..k])
 }
 
-// Puts 16 hexadecimal digits.
-pub fn put_bits(out: &mut [u8], at: usize, bits: u64) -> usize
+// Puts 16 hexadecimal digits, and no space before them.
+fn put_digits(out: &mut [u8], at: usize, bits: u64) -> usize
     ensures { λ r. ⌜ Counts r (now (out .exit)) ⌝ }
 {
     let mut digits = [0u8; 16];
     let k = io::hex(bits, 16, &mut digits);
-    put_word(out, at, &digits[..k])
+    put(out, at, &digits[..k])
+}
+
+// Puts X as a word of 32 hexadecimal digits.
+pub fn put_x(out: &mut [u8], at: usize, x: U128) -> usize
+    ensures { λ r. ⌜ Counts r (now (out .exit)) ⌝ }
+{
+    let start = put_word(out, at, b"");
+    let middle = put_digits(out, start, x.hi);
+    put_digits(out, middle, x.lo)
 }
 
 pub fn put_places(out: &mut [u8], at: usize, places: &[u32]) -> usize

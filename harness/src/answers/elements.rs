@@ -5,7 +5,8 @@ use crate::compare::planted::{self, PairData, Planting, PLANTS, SHAPES};
 use crate::compare::searches::{self, Outcome};
 use crate::compare::verdicts::{self, Claim};
 use crate::compare::{limits, rules, Checked};
-use crate::{ffi, ffi::Settings, list::List, original, original::ProofOf, rng::Rng};
+use crate::threshold::Threshold::OfQ;
+use crate::{ffi, ffi::Settings, list::List, original, rng::Rng};
 
 /// The completeness of the realistic settings.
 const COMPLETENESS: f64 = 10.0;
@@ -62,19 +63,19 @@ fn write_deepest(answers: &mut Answers) -> Checked {
         elements.iter().for_each(|data| list.push(data, None, 0));
         list
     };
-    let one = Settings { set_size: 1, proof_size: 1024, max_retries: 2, search_width: 1, dfs_bound: 1025, q: 1.0 };
+    let one = Settings { set_size: 1, proof_size: 1024, max_retries: 2, search_width: 1, dfs_bound: 1025, x: OfQ(1.0) };
     prove(answers, &one, &of(&[b"a"]))?;
     prove(answers, &Settings { dfs_bound: 1024, ..one }, &of(&[b"a"]))?;
-    prove(answers, &Settings { q: 0.001, dfs_bound: 1 << 48, ..one }, &of(&[b"a", b"b"]))?;
-    prove(answers, &Settings { proof_size: 0, max_retries: 1000, q: 0.0, ..one }, &of(&[b""]))?;
-    prove(answers, &Settings { search_width: (1 << 32) - 1, q: 0.001, proof_size: 1, ..one }, &of(&[b""]))?;
+    prove(answers, &Settings { x: OfQ(0.001), dfs_bound: 1 << 48, ..one }, &of(&[b"a", b"b"]))?;
+    prove(answers, &Settings { proof_size: 0, max_retries: 1000, x: OfQ(0.0), ..one }, &of(&[b""]))?;
+    prove(answers, &Settings { search_width: (1 << 32) - 1, x: OfQ(0.001), proof_size: 1, ..one }, &of(&[b""]))?;
     Ok(())
 }
 
 /// Chains that surely exist, of a single bin: what the counters and the length decide by themselves, R = 0 and more elements than the
 /// prover keeps among it.
 fn write_claims(answers: &mut Answers) {
-    let one = Settings { set_size: 1, proof_size: 3, max_retries: 5, search_width: 7, dfs_bound: 0, q: 1.0 };
+    let one = Settings { set_size: 1, proof_size: 3, max_retries: 5, search_width: 7, dfs_bound: 0, x: OfQ(1.0) };
     let mut list = List::default();
     list.push(b"a", Some(7), 0);
     list.push(b"", None, 0);
@@ -82,7 +83,7 @@ fn write_claims(answers: &mut Answers) {
     let width = (1 << 32) - 1;
     for (settings, counters) in [
         (one, vec![(0, 0), (1, 6), (4, 0), (4, 6), (5, 0), (0, 7), (5, 7), (u64::MAX, 0), (0, u64::MAX)]),
-        (Settings { q: 0.0, ..one }, vec![(0, 0), (5, 0)]),
+        (Settings { x: OfQ(0.0), ..one }, vec![(0, 0), (5, 0)]),
         (Settings { max_retries: 0, ..one }, vec![(0, 0), (1, 0)]),
         (Settings { search_width: 0, ..one }, vec![(0, 0), (1, 0)]),
         (Settings { proof_size: 2, ..one }, vec![(0, 0), (5, 7)]),
@@ -95,7 +96,7 @@ fn write_claims(answers: &mut Answers) {
         }
     }
     let none = Settings { proof_size: 0, ..one };
-    for settings in [none, Settings { q: 0.0, ..none }, Settings { q: 0.5, ..none }, Settings { proof_size: 1, ..none }] {
+    for settings in [none, Settings { x: OfQ(0.0), ..none }, Settings { x: OfQ(0.5), ..none }, Settings { proof_size: 1, ..none }] {
         verify(answers, &Claim { settings, retry_counter: 0, search_counter: 3, list: List::default() });
     }
 }
@@ -158,7 +159,7 @@ fn verify_all(answers: &mut Answers, rng: &mut Rng, settings: &Settings, list: &
 }
 
 fn shown(s: &Settings) -> String {
-    format!("{} {} {} {} {} {}", s.set_size, s.proof_size, s.max_retries, s.search_width, s.dfs_bound, bits(s.q))
+    format!("{} {} {} {} {} {}", s.set_size, s.proof_size, s.max_retries, s.search_width, s.dfs_bound, bits(s.x.q()))
 }
 
 fn prove(answers: &mut Answers, s: &Settings, list: &List) -> Result<Outcome, String> {
@@ -182,7 +183,7 @@ fn verify(answers: &mut Answers, claim: &Claim) {
         return;
     }
     let Claim { settings, retry_counter, search_counter, list } = claim;
-    let number = original::verify(settings, &ProofOf::from(*retry_counter, *search_counter, list.elements()));
+    let number = verdicts::by_rust(claim);
     answers.list(list);
     answers.case(VERIFY, &format!("{} {retry_counter} {search_counter}", shown(settings)), &number.to_string());
 }

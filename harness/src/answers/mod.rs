@@ -12,7 +12,7 @@ use std::io::{self, Write as _};
 const FORM: &str = "\
 # uniform H N = 0 VALUE                              a draw, or 1: no draw
 # bernoulli H Q = ANSWER                             1: yes, 0: no
-# small U C = 0 PROOF_SIZE MAX_RETRIES SEARCH_WIDTH DFS_BOUND Q
+# small U C = 0 PROOF_SIZE MAX_RETRIES SEARCH_WIDTH DFS_BOUND X
 # list                                               begins a list, empty so far, of which the lines below ask
 # + DATA INDEX                                       the list's next element; without an index: + DATA
 # distinct = ANSWER                                  1: no two elements are the same, 0: some two are
@@ -20,6 +20,7 @@ const FORM: &str = "\
 # verify SETTINGS R S = NUMBER                       of the list as a proof's: 0, 20, 21 or 22
 # SETTINGS are SET_SIZE PROOF_SIZE MAX_RETRIES SEARCH_WIDTH DFS_BOUND Q. PLACES are PROOF_SIZE numbers, counted from 0.
 # H is 16 bytes and DATA any, in hexadecimal, no data as -. Q and C are a double's bits in 16 hexadecimal digits, N to PLACES decimal.
+# X is the whole part of the Rust's Q * 2^128, at most 2^128 - 1, in 32 hexadecimal digits.
 ";
 
 pub fn run(seed: u64) -> Result<(), String> {

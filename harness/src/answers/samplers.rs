@@ -2,7 +2,7 @@
 
 use super::{bits, Answers, BERNOULLI, SMALL, UNIFORM};
 use crate::compare::{bernoulli, small_case, uniform};
-use crate::ffi;
+use crate::{ffi, threshold};
 
 pub fn write(answers: &mut Answers) {
     write_uniform(answers);
@@ -89,7 +89,7 @@ fn small_case(answers: &mut Answers, u: u64, c: f64) {
         return;
     }
     let p = oracle::param_small_case(c, u);
-    let q = bits(p.valid_proof_probability);
-    let answer = format!("0 {} {} {} {} {q}", p.proof_size, p.max_retries, p.search_width, p.dfs_bound);
+    let x = threshold::of(p.valid_proof_probability).expect("the small case's q is from 0 to 1");
+    let answer = format!("0 {} {} {} {} {x:032x}", p.proof_size, p.max_retries, p.search_width, p.dfs_bound);
     answers.case(SMALL, &format!("{u} {}", bits(c)), &answer);
 }

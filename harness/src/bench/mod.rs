@@ -14,6 +14,7 @@ use crate::{
     args::{Bench, AGAIN},
     ffi,
     rng::Rng,
+    threshold::{self, Threshold::OfQ},
 };
 use measure::{in_turns, Measured, Work, ROUNDS};
 use sha2::{Digest, Sha256};
@@ -137,12 +138,17 @@ fn samplers() {
         ]);
         row(&format!("uniform, {name}"), against, ours, theirs, None);
     }
-    let q = 0.3;
-    let [ours, theirs] = in_turns([
-        over(&hashes, move |h| ffi::sample_bernoulli(Some(h), black_box(q))),
-        over(&hashes, move |h| oracle::sample_bernoulli(h, black_box(q))),
-    ]);
-    row("Bernoulli, q = 0.3", against, ours, theirs, None);
+    let (q, x) = (0.3, OfQ(0.3).x());
+    let theirs = move |h: &[u8; 16]| oracle::sample_bernoulli(h, black_box(q));
+    let [by_x, by_q] = in_turns([over(&hashes, move |h| ffi::sample_bernoulli(Some(h), black_box(x))), over(&hashes, theirs)]);
+    row("Bernoulli, X of q = 0.3", against, by_x, by_q, None);
+    let converted = move |h: &[u8; 16]| {
+        let mut out = [0; 2];
+        ffi::threshold(black_box(q), &mut out[..]);
+        ffi::sample_bernoulli(Some(h), threshold::whole(out[0], out[1]))
+    };
+    let [by_x, by_q] = in_turns([over(&hashes, converted), over(&hashes, theirs)]);
+    row("X of q = 0.3, then Bernoulli", against, by_x, by_q, None);
 }
 
 fn over<'a, T>(hashes: &'a [[u8; 16]; 256], call: impl Fn(&[u8; 16]) -> T + 'a) -> Work<'a> {

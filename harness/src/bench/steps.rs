@@ -4,7 +4,7 @@
 use super::measure::{timed, Measured};
 use super::row;
 use super::searches::{against, any_elements, SET_SIZE};
-use crate::{ffi, ffi::Settings, original, rng::Rng};
+use crate::{ffi, ffi::Settings, original, rng::Rng, threshold::Threshold::OfQ};
 use std::hint::black_box;
 
 /// How long the chains get. With as many elements as bins each has one extension on the average: few come to their full length, and one
@@ -22,7 +22,7 @@ pub fn run() -> Result<(), String> {
 }
 
 fn of((set_size, shape): (u64, &str), proof_size: u64) -> Result<(), String> {
-    let settings = Settings { set_size, proof_size, max_retries: 1, search_width: (1 << 32) - 1, dfs_bound: STEPS, q: 0.0 };
+    let settings = Settings { set_size, proof_size, max_retries: 1, search_width: (1 << 32) - 1, dfs_bound: STEPS, x: OfQ(0.0) };
     let (list, elements) = any_elements(&mut Rng::new(0, proof_size), set_size, |data| *data);
     let (mut places, mut table, mut out) = (vec![0; proof_size as usize], vec![0; 3 * set_size as usize + 1], [0; 3]);
     let (ours, number) = timed(|| ffi::prove(black_box(&settings), list.lent(), &mut places[..], &mut table[..], &mut out[..]));

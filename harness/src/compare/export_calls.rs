@@ -1,17 +1,17 @@
-//! Each export with arguments whose answer is known, made by the library and worked out by the Rust, the specification's table and the
-//! harness's own tickets.
+//! Each export with arguments whose answer is known, made by the library and worked out by the Rust, the specification's table and words
+//! and the harness's own tickets.
 
 use super::parameters::Args;
 use super::searches::Outcome;
-use super::verdicts::Claim;
-use super::{rules, searches, small_case, verifier_refusals};
+use super::verdicts::{self, Claim};
+use super::{chains, rules, searches, small_case, threshold, verifier_refusals};
 use crate::{
     ffi,
     ffi::{Listed, Rooms, Settings},
     list::{List, Written},
-    original,
-    original::ProofOf,
     rng::Rng,
+    threshold::Threshold::{Alone, OfQ},
+    threshold::{halves, whole},
     ticket,
     ticket::Proof,
 };
@@ -32,7 +32,7 @@ pub struct Export {
 const SEED: u64 = 0x43_c389_a516;
 
 pub fn all() -> Result<Vec<Export>, String> {
-    Ok(vec![uniform(), bernoulli(), hash(), small(), distinct(), prove()?, verify()?, write_ticket(), read_ticket()])
+    Ok(vec![uniform(), bernoulli(), converter(), hash(), small(), distinct(), prove()?, verify()?, write_ticket(), read_ticket()])
 }
 
 /// Parameters: h, n, out.
@@ -54,12 +54,28 @@ fn uniform() -> Export {
     Export { name: "alba_sample_uniform", args, answer: 0, ours, due }
 }
 
-/// Parameters: h, q.
+/// Parameters: h, x_high, x_low. X is the number after h's own, whose halves the other way about are a lesser one.
 fn bernoulli() -> Export {
-    let args = Args { double: 0.3, bytes: vec![(1..=16).collect()], ..Args::default() };
-    let ours = |args: &mut Args| ffi::sample_bernoulli(Some(&args.bytes[0]), args.double);
-    let due = |args: &mut Args| Ok(u32::from(oracle::sample_bernoulli(args.bytes[0][..].try_into().expect("16 bytes"), args.double)));
+    let h: Vec<u8> = (1..=16).rev().collect();
+    let args = Args { numbers: vec![0x100f_0e0d_0c0b_0a09, 0x0807_0605_0403_0202], bytes: vec![h], ..Args::default() };
+    let ours = |args: &mut Args| ffi::sample_bernoulli(Some(&args.bytes[0]), whole(args.numbers[0], args.numbers[1]));
+    let due = |args: &mut Args| {
+        let i = u128::from_be_bytes(args.bytes[0][..].try_into().expect("16 bytes"));
+        Ok(u32::from(i < whole(args.numbers[0], args.numbers[1])))
+    };
     Export { name: "alba_sample_bernoulli", args, answer: 1, ours, due }
+}
+
+/// Parameters: q, out. Both words of X have digits of q.
+fn converter() -> Export {
+    let args = Args { double: 0.3 / (1u64 << 40) as f64, longs: vec![vec![7; threshold::WORDS]], ..Args::default() };
+    let ours = |args: &mut Args| ffi::threshold(args.double, &mut args.longs[0][..]);
+    let due = |args: &mut Args| {
+        let (number, written) = threshold::due(args.double, args.longs[0].len());
+        args.longs[0][..written.len()].copy_from_slice(&written);
+        Ok(number)
+    };
+    Export { name: "alba_threshold", args, answer: 0, ours, due }
 }
 
 /// Parameters: four strings and out.
@@ -101,18 +117,19 @@ fn distinct() -> Export {
     Export { name: "alba_check_distinct", args, answer: 0, ours, due }
 }
 
-/// Parameters: set_size, proof_size, max_retries, search_width, dfs_bound, q, data, ends, marks, indexes, places, table, out. Workspace is
-/// enough in most orders of the settings, so that they are searches too.
+/// Parameters: set_size, proof_size, max_retries, search_width, dfs_bound, x_high, x_low, data, ends, marks, indexes, places, table, out.
+/// Workspace is enough in most orders of the settings, so that they are searches too.
 fn prove() -> Result<Export, String> {
-    let s = Settings { set_size: 5, proof_size: 3, max_retries: 9, search_width: 4, dfs_bound: 60, q: 0.005 };
+    let s = Settings { set_size: 5, proof_size: 3, max_retries: 9, search_width: 4, dfs_bound: 60, x: OfQ(0.005) };
     // The try that finds is past search_width, so that the retries can't be as few.
-    let (list, _) = found(&s, |found| found.retry_counter > 4)?;
+    let (list, proof) = found(&s, |found| found.retry_counter > 4)?;
+    let [x_high, x_low] = halves(least_x(&s, &list, &proof)?);
     let args = Args {
-        numbers: vec![s.set_size, s.proof_size, s.max_retries, s.search_width, s.dfs_bound],
-        double: s.q,
+        numbers: vec![s.set_size, s.proof_size, s.max_retries, s.search_width, s.dfs_bound, x_high, x_low],
         bytes: vec![list.data, list.marks],
         words: vec![list.ends, vec![0xa5a5; 100], vec![0x5a5a; 200]],
         longs: vec![list.indexes, vec![7; 4]],
+        ..Args::default()
     };
     let ours = |args: &mut Args| {
         let (s, bytes) = (settings(args), &args.bytes);
@@ -142,26 +159,32 @@ fn prove_due(args: &mut Args) -> Result<u32, String> {
     Ok(number)
 }
 
-/// Parameters: set_size, proof_size, max_retries, search_width, dfs_bound, q, retry_counter, search_counter, data, ends, marks, indexes.
+/// Parameters: set_size, proof_size, max_retries, search_width, dfs_bound, x_high, x_low, retry_counter, search_counter, data, ends, marks,
+/// indexes.
 fn verify() -> Result<Export, String> {
-    let s = Settings { set_size: 11, proof_size: 5, max_retries: 7, search_width: 41, dfs_bound: 1 << 33, q: 0.0015 };
-    // All seven numbers are different, S is no lawful R, and the try isn't the first.
+    let s = Settings { set_size: 11, proof_size: 5, max_retries: 7, search_width: 41, dfs_bound: 1 << 33, x: OfQ(0.0015) };
+    // All nine numbers are different, S is no lawful R, and the try isn't the first.
     let (list, proof) = found(&s, |found| {
         let (retry, search) = (found.retry_counter, found.search_counter);
         ![1, s.proof_size, s.max_retries].contains(&retry) && search > s.max_retries && search != s.set_size
     })?;
-    let Claim { retry_counter, search_counter, list, .. } = Claim::of(&s, &list, &proof);
+    let claim = Claim::of(&s, &list, &proof);
+    // X is just above the number of the last hash, and below it with its words in each other's place. Both are over every limit.
+    let [high, _] = halves(chains::last_number(&claim).filter(|_| verdicts::by_rust(&claim) == 0).ok_or("  the proof has no chain\n")?);
+    let (x_high, x_low) = (high + 1, 1 << 49);
+    let Claim { retry_counter, search_counter, list, .. } = claim;
     let Written { data, ends, marks, indexes } = list.written();
+    let counters = [retry_counter, search_counter];
     let args = Args {
-        numbers: vec![s.set_size, s.proof_size, s.max_retries, s.search_width, s.dfs_bound, retry_counter, search_counter],
-        double: s.q,
+        numbers: [&[s.set_size, s.proof_size, s.max_retries, s.search_width, s.dfs_bound, x_high, x_low][..], &counters].concat(),
         bytes: vec![data, ends, marks, indexes],
         ..Args::default()
     };
-    let ours = |args: &mut Args| ffi::verify(&settings(args), args.numbers[5], args.numbers[6], written(args).lent());
+    let ours = |args: &mut Args| ffi::verify(&settings(args), args.numbers[7], args.numbers[8], written(args).lent());
     let due = |args: &mut Args| {
-        let judge = |list: List| original::verify(&settings(args), &ProofOf::from(args.numbers[5], args.numbers[6], list.elements()));
-        Ok(verifier_refusals::due(&settings(args), &written(args)).map_or_else(|number| number, judge))
+        let (settings, retry_counter, search_counter) = (settings(args), args.numbers[7], args.numbers[8]);
+        let judge = |list: List| chains::verify(&Claim { settings, retry_counter, search_counter, list });
+        Ok(verifier_refusals::due(&settings, &written(args)).map_or_else(|number| number, judge))
     };
     Ok(Export { name: "alba_verify", args, answer: 0, ours, due })
 }
@@ -227,9 +250,22 @@ fn found(s: &Settings, is_wanted: impl Fn(&Outcome) -> bool) -> Result<(List, Ou
     }
 }
 
+/// The least X under which the first chain that passes is still that of the proof, which the Rust found with a greater X: the next number
+/// after that of the chain's last hash. So every digit of both words counts.
+fn least_x(s: &Settings, list: &List, proof: &Outcome) -> Result<u128, String> {
+    let number = chains::last_number(&Claim::of(s, list, proof));
+    let x = 1 + number.ok_or("  the proof that the Rust found has no chain by the specification's words\n")?;
+    match chains::search(&Settings { x: Alone(x), ..*s }, list) {
+        same if same == *proof => Ok(x),
+        other => Err(format!("  {s:?}\n  the Rust: {proof:?}\n  by the specification's words, with the least X: {other:?}\n")),
+    }
+}
+
 fn settings(args: &Args) -> Settings {
-    let [set_size, proof_size, max_retries, search_width, dfs_bound, ..] = args.numbers[..] else { unreachable!("five numbers or more") };
-    Settings { set_size, proof_size, max_retries, search_width, dfs_bound, q: args.double }
+    let [set_size, proof_size, max_retries, search_width, dfs_bound, x_high, x_low, ..] = args.numbers[..] else {
+        unreachable!("seven numbers or more")
+    };
+    Settings { set_size, proof_size, max_retries, search_width, dfs_bound, x: Alone(whole(x_high, x_low)) }
 }
 
 /// The list of a call that takes ends and indexes as numbers.

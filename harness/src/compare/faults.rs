@@ -1,6 +1,5 @@
 //! Faults put into settings and lists that had none.
 
-use super::refusals;
 use super::rules::{BYTES, ELEMENTS, MOST};
 use crate::{ffi::Settings, list::List, rng::Rng};
 
@@ -18,17 +17,14 @@ fn over(rng: &mut Rng, limit: u64) -> u64 {
     }
 }
 
+/// A whole number out of range; X has no fault.
 pub fn in_settings(rng: &mut Rng, s: &mut Settings) {
-    match rng.below(6) {
+    match rng.below(5) {
         0 => s.set_size = if rng.below(3) == 0 { 0 } else { over(rng, MOST.set_size) },
         1 => s.proof_size = over(rng, MOST.proof_size),
         2 => s.max_retries = over(rng, MOST.max_retries),
         3 => s.search_width = over(rng, MOST.search_width),
-        4 => s.dfs_bound = over(rng, MOST.dfs_bound),
-        _ => {
-            let listed = refusals::unlawful();
-            s.q = listed[rng.below(listed.len() as u64) as usize];
-        }
+        _ => s.dfs_bound = over(rng, MOST.dfs_bound),
     }
 }
 

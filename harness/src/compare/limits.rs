@@ -2,7 +2,7 @@
 //! what the specification says of them.
 
 use super::{blocks, faults, rules, searches, Checked, Run};
-use crate::{ffi, ffi::Settings, list::List};
+use crate::{ffi, ffi::Settings, list::List, threshold::Threshold::OfQ};
 
 pub fn run(run: &mut Run, _: u64) -> Checked {
     let cases = cases();
@@ -22,7 +22,7 @@ pub fn run(run: &mut Run, _: u64) -> Checked {
 }
 
 /// The number and the count that the specification gives for its cases i to l, or that follow from its words where it leaves one out.
-const SAID: [(u32, u64); 8] = [
+pub const SAID: [(u32, u64); 8] = [
     (ffi::NOT_FOUND, 9),
     (ffi::NOT_FOUND_IN_BOUNDS, 9),
     (ffi::NOT_FOUND, 7),
@@ -36,27 +36,27 @@ const SAID: [(u32, u64); 8] = [
 fn cases() -> Vec<(Settings, List)> {
     let mut cases = Vec::new();
     let of = faults::long_list;
-    let one = Settings { set_size: 1, proof_size: 1024, max_retries: 2, search_width: 1, dfs_bound: 1 << 48, q: 1.0 };
+    let one = Settings { set_size: 1, proof_size: 1024, max_retries: 2, search_width: 1, dfs_bound: 1 << 48, x: OfQ(1.0) };
     // The deepest search: found, not found, and with a choice at each length.
     cases.push((one, of(1, 48)));
-    cases.push((Settings { q: 0.0, ..one }, of(1, rules::BYTES)));
+    cases.push((Settings { x: OfQ(0.0), ..one }, of(1, rules::BYTES)));
     cases.push((Settings { dfs_bound: 1025, ..one }, of(1, 0)));
     cases.push((Settings { dfs_bound: 1024, ..one }, of(1, 0)));
-    cases.push((Settings { q: 0.0, dfs_bound: 9000, ..one }, of(2, 8)));
-    cases.push((Settings { q: 0.001, dfs_bound: 9000, ..one }, of(3, 8)));
+    cases.push((Settings { x: OfQ(0.0), dfs_bound: 9000, ..one }, of(2, 8)));
+    cases.push((Settings { x: OfQ(0.001), dfs_bound: 9000, ..one }, of(3, 8)));
     // The largest set, its bins, and the longest lists.
     for (set_size, elements) in [(32_768, 32_768), (32_768, rules::ELEMENTS), (32_767, rules::ELEMENTS), (1, rules::ELEMENTS)] {
-        let settings = Settings { set_size, proof_size: 3, max_retries: 3, search_width: 40, dfs_bound: 1000, q: 0.01 };
+        let settings = Settings { set_size, proof_size: 3, max_retries: 3, search_width: 40, dfs_bound: 1000, x: OfQ(0.01) };
         cases.push((settings, of(elements, 2)));
-        cases.push((Settings { q: 0.0, ..settings }, of(elements, 2)));
+        cases.push((Settings { x: OfQ(0.0), ..settings }, of(elements, 2)));
     }
     // The most retries, the greatest width and bound.
-    let idle = Settings { proof_size: 0, max_retries: 65_535, q: 0.0, ..one };
+    let idle = Settings { proof_size: 0, max_retries: 65_535, x: OfQ(0.0), ..one };
     for dfs_bound in [1 << 48, 65_536, 65_535, 65_534, 1, 0] {
         cases.push((Settings { dfs_bound, ..idle }, of(1, 1)));
     }
     cases.push((Settings { search_width: (1 << 32) - 1, max_retries: 2, dfs_bound: 1000, ..idle }, of(1, 1)));
-    cases.push((Settings { search_width: (1 << 32) - 1, max_retries: 2, q: 0.001, ..idle }, of(1, 1)));
+    cases.push((Settings { search_width: (1 << 32) - 1, max_retries: 2, x: OfQ(0.001), ..idle }, of(1, 1)));
     cases
 }
 
@@ -66,8 +66,10 @@ pub fn i_to_l() -> Vec<(Settings, List)> {
         [(1, 2, 1, 3, [100, 9]), (2, 2, 1, 1, [100, 4]), (1, 0, 2, 1, [5, 2]), (1, 0, 2, 0, [0, 1])]
     {
         for dfs_bound in bounds {
-            cases
-                .push((Settings { set_size: 1, proof_size, max_retries, search_width, dfs_bound, q: 0.0 }, faults::long_list(elements, 4)));
+            cases.push((
+                Settings { set_size: 1, proof_size, max_retries, search_width, dfs_bound, x: OfQ(0.0) },
+                faults::long_list(elements, 4),
+            ));
         }
     }
     cases

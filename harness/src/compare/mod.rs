@@ -1,7 +1,9 @@
-//! The library against the original Rust (and `sha2`), on the same inputs.
+//! The library against the original Rust (and `sha2`), on the same inputs, and against the specification's words where the Rust has no answer.
 
 pub mod bernoulli;
 pub mod blocks;
+mod by_x;
+pub mod chains;
 mod changed_tickets;
 pub mod distinct;
 mod export_calls;
@@ -16,6 +18,7 @@ pub mod refusals;
 pub mod rules;
 pub mod searches;
 pub mod small_case;
+pub mod threshold;
 pub mod tickets;
 pub mod uniform;
 pub mod verdicts;
@@ -37,10 +40,12 @@ type Kind = fn(&mut Run, u64) -> Checked;
 
 pub fn run(options: &Compare) -> Checked {
     println!("seed 0x{:016x}, {} random cases", options.seed, options.cases);
-    let kinds: [(&str, Kind, u64); 14] = [
+    let kinds: [(&str, Kind, u64); 17] = [
         ("orders of parameters", parameters::run, 0),
         ("uniform", uniform::run, options.cases),
+        ("threshold", threshold::run, options.cases),
         ("Bernoulli", bernoulli::run, options.cases),
+        ("Bernoulli by X", bernoulli::by_x, options.cases),
         ("hash", hash::run, options.cases / 20),
         ("hash at its limit", hash::at_limit, 0),
         ("small case", small_case::run, options.cases / 20),
@@ -49,6 +54,7 @@ pub fn run(options: &Compare) -> Checked {
         ("small searches", searches::small, options.cases / 10),
         ("realistic searches", searches::realistic, 0),
         ("searches at the limits", limits::run, 0),
+        ("searches by X", by_x::run, options.cases / 20),
         ("refusals of prove", prover_refusals::run, options.cases / 100),
         ("refusals of verify", verifier_refusals::run, options.cases / 100),
         ("tickets", tickets::run, options.cases / 50),

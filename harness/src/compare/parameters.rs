@@ -1,7 +1,7 @@
 //! The order of each export's parameters. A contract names parameters and doesn't number them, so the order is kept by tests alone.
 //!
 //! Each export is called with arguments whose answer is known, and then with those of one type in each other order: every answer must be
-//! the one that the Rust and the specification's table give. A library whose own parameters stood in that order would have to answer the
+//! the one that the Rust and the specification give. A library whose own parameters stood in that order would have to answer the
 //! first call otherwise than is due; where it would not, the arguments don't tell the parameters apart, and that fails too.
 //!
 //! On x86-64 a double is passed apart from whole numbers and slices, so its place among them is none of the call's.

@@ -3,6 +3,7 @@
 use super::blocks::{self, Block};
 use super::fence::Fenced;
 use super::{faults, rules, searches, shown_list, Checked, Run};
+use crate::threshold::Threshold::{Alone, OfQ};
 use crate::{ffi, ffi::Settings, list::List, rng::Rng};
 
 const BLOCK: u64 = 100;
@@ -44,7 +45,7 @@ fn lawful(rng: &mut Rng) -> Given {
 
 /// Settings of a search that ends at once.
 fn short() -> Settings {
-    Settings { set_size: 1, proof_size: 1, max_retries: 1, search_width: 2, dfs_bound: 10, q: 0.5 }
+    Settings { set_size: 1, proof_size: 1, max_retries: 1, search_width: 2, dfs_bound: 10, x: OfQ(0.5) }
 }
 
 /// With workspace just enough.
@@ -88,7 +89,7 @@ fn listed() -> Vec<Given> {
 }
 
 fn with_settings() -> Vec<Given> {
-    let changes: [fn(&mut Settings); 16] = [
+    let changes: [fn(&mut Settings); 18] = [
         |s| s.set_size = 0,
         |s| s.set_size = 32_769,
         |s| s.set_size = 32_768,
@@ -96,13 +97,16 @@ fn with_settings() -> Vec<Given> {
         |s| s.max_retries = 65_536,
         |s| s.search_width = 1 << 32,
         |s| s.dfs_bound = (1 << 48) + 1,
-        |s| s.q = -0.0,
-        |s| s.q = 1.0,
-        |s| s.q = f64::from_bits(1f64.to_bits() + 1),
+        |s| s.x = OfQ(-0.0),
+        |s| s.x = OfQ(1.0),
+        // Every X is lawful.
+        |s| s.x = Alone(1),
+        |s| s.x = Alone(u128::from(u64::MAX)),
+        |s| s.x = Alone(u128::MAX),
         |s| s.set_size = 5,
         |s| s.set_size = 6,
-        |s| (s.set_size, s.proof_size, s.q) = (0, 1025, f64::NAN),
-        |s| (s.proof_size, s.q) = (1025, f64::NAN),
+        |s| (s.set_size, s.proof_size, s.x) = (0, 1025, Alone(u128::MAX)),
+        |s| (s.proof_size, s.x) = (1025, Alone(0)),
         |s| s.max_retries = 0,
         |s| (s.max_retries, s.dfs_bound) = (0, 0),
     ];
@@ -123,7 +127,7 @@ pub fn check(block: &mut Block, given: &Given) -> Checked {
     if due == ffi::NOT_ENOUGH {
         let theirs = searches::due(settings, list)?.number;
         if theirs != due {
-            return Err(format!("  {settings:?}\n{}  due: {due}\n  the Rust: {theirs}\n", shown_list(list)));
+            return Err(format!("  {settings:?}\n{}  due: {due}\n  the search: {theirs}\n", shown_list(list)));
         }
     }
     let rng = &mut block.rng;
@@ -146,8 +150,7 @@ fn refuse(block: &mut Block, settings: &Settings, list: &List, due: u32, lent: L
         return Ok(());
     }
     Err(format!(
-        "  {settings:?}, q's bits 0x{:016x}\n{}  ours: {ours}\n  due: {due}\n{}{}{}  the list is {}\n",
-        settings.q.to_bits(),
+        "  {settings:?}\n{}  ours: {ours}\n  due: {due}\n{}{}{}  the list is {}\n",
         shown_list(list),
         out.story("R, S and count", result),
         places.story("places", &[]),

@@ -1,15 +1,16 @@
 //! Bad input through the exports: each is answered by its number, in the order of the specification's table, and writes nothing.
 
-use super::{bernoulli, fence::Fenced, hash, hex, uniform, verdicts, Answered, Checked, Run, Shifted};
+use super::{bernoulli, fence::Fenced, hash, hex, threshold, uniform, verdicts, Answered, Checked, Run, Shifted};
 use crate::{ffi, rng::Rng};
 
 /// Lengths of what is lent.
 pub const LENGTHS: std::ops::RangeInclusive<usize> = 0..=40;
-/// Unlawful doubles made at random, beside the listed ones.
+/// Doubles made at random, most of them unlawful, beside the listed ones.
 const RANDOM: u64 = 100_000;
 
 pub fn run(run: &mut Run, _: u64) -> Checked {
     of_uniform(run)?;
+    of_threshold(run)?;
     of_bernoulli(run)?;
     of_hash(run)
 }
@@ -56,40 +57,47 @@ pub fn uniform_of(rng: &mut Rng, h_len: Option<usize>, n: u64, out_len: Option<u
     ))
 }
 
-fn of_bernoulli(run: &mut Run) -> Checked {
+/// 8 for the length comes before 3 for q.
+fn of_threshold(run: &mut Run) -> Checked {
     for q in unlawful().into_iter().chain([0.0, -0.0, 0.5, 1.0]) {
-        for h_len in LENGTHS.map(Some).chain([None]) {
-            bernoulli_of(&mut run.rng, h_len, q)?;
+        for length in LENGTHS.map(Some).chain([None]) {
+            threshold::check(&mut run.rng, q, length)?;
             run.count();
         }
     }
     for _ in 0..RANDOM {
         let q = f64::from_bits(run.rng.word());
-        let len = if run.rng.below(4) == 0 { 15 + run.rng.below(3) as usize } else { 16 };
-        bernoulli_of(&mut run.rng, Some(len), q)?;
+        let length = if run.rng.below(4) == 0 { 1 + run.rng.below(3) as usize } else { threshold::WORDS };
+        threshold::check(&mut run.rng, q, Some(length))?;
         run.count();
     }
     Ok(())
 }
 
-/// 8 for the length comes before 3 for q; everything lawful goes to the comparison with the Rust.
-pub fn bernoulli_of(rng: &mut Rng, h_len: Option<usize>, q: f64) -> Answered {
-    let due = match h_len {
-        Some(16) if (0.0..=1.0).contains(&q) => {
-            let i = bernoulli::any_hash(rng, q);
-            return bernoulli::check(rng, i, q);
+fn of_bernoulli(run: &mut Run) -> Checked {
+    for x in [0, 1, u128::from(u64::MAX), 1 << 64, u128::MAX] {
+        for h_len in LENGTHS.map(Some).chain([None]) {
+            bernoulli_of(&mut run.rng, h_len, x)?;
+            run.count();
         }
-        Some(16) => ffi::BAD_Q,
-        _ => ffi::BAD_LENGTH,
-    };
+    }
+    Ok(())
+}
+
+/// 8 for the length; everything lawful goes to the comparison with i < X.
+pub fn bernoulli_of(rng: &mut Rng, h_len: Option<usize>, x: u128) -> Answered {
+    if h_len == Some(16) {
+        let i = bernoulli::any_near(rng, x);
+        return bernoulli::check_x(rng, i, x);
+    }
     let (h, was) = any_bytes(rng, h_len);
-    let ours = ffi::sample_bernoulli(h.as_ref().map(Shifted::bytes), q);
+    let ours = ffi::sample_bernoulli(h.as_ref().map(Shifted::bytes), x);
     let kept = is_kept(&h, &was);
-    if ours == due && kept {
+    if ours == ffi::BAD_LENGTH && kept {
         return Ok(ours);
     }
-    let (shown, bits) = (shown(&h), q.to_bits());
-    Err(format!("  h = {shown}, {}\n  q = {q:e}, bits 0x{bits:016x}\n  ours: {ours}\n  due: {due}", verdicts::as_it_was(kept)))
+    let (shown, due) = (shown(&h), ffi::BAD_LENGTH);
+    Err(format!("  h = {shown}, {}\n  X = 0x{x:032x}\n  ours: {ours}\n  due: {due}\n", verdicts::as_it_was(kept)))
 }
 
 /// Not numbers of several kinds, infinities, numbers below 0 and above 1, the nearest ones first.

@@ -1,9 +1,9 @@
-//! `alba_prove` against the Rust: the outcome against `Telescope::prove`, the step count against `prove_routine`; and what it leaves in
-//! every lent buffer against the specification's words.
+//! `alba_prove` against the Rust: the outcome against `Telescope::prove`, the step count against `prove_routine`; with an X by itself both
+//! against the specification's words (chains.rs); and what it leaves in every lent buffer against those words.
 
 use super::blocks::{self, Block};
 use super::fence::Fenced;
-use super::{bernoulli, rules, shown_list, verdicts, Checked, Run};
+use super::{bernoulli, chains, rules, shown_list, verdicts, Checked, Run};
 use crate::{
     ffi,
     ffi::Settings,
@@ -11,6 +11,7 @@ use crate::{
     original,
     original::ProofOf,
     rng::Rng,
+    threshold::Threshold::{Alone, OfQ},
 };
 
 /// Searches of one list, and of such a family, in a block.
@@ -101,8 +102,7 @@ pub fn check(block: &mut Block, s: &Settings, list: &List) -> Result<Outcome, St
     let equal = ours == due.number && places.holds(&due.places) && table.holds(&due_table) && out.holds(result) && lent == *list;
     if !equal {
         return Err(format!(
-            "  {s:?}, q's bits 0x{:016x}\n{}  ours: {ours}\n  the Rust: {}\n{}{}{}{}",
-            s.q.to_bits(),
+            "  {s:?}\n{}  ours: {ours}\n  due: {}\n{}{}{}{}",
             shown_list(list),
             due.number,
             out.story("R, S and count", result),
@@ -115,9 +115,18 @@ pub fn check(block: &mut Block, s: &Settings, list: &List) -> Result<Outcome, St
     Ok(due)
 }
 
-/// What the Rust answers, 10 for too few elements too: what comes out as its users get it, the count from its routine, which must come
-/// to the same. Too few elements only the users' call refuses, so the routine isn't asked then, and the count is a refusal's, 0.
+/// What a search comes to, 10 for too few elements too: with a q what the Rust answers, with an X by itself what the specification's words
+/// do.
 pub fn due(s: &Settings, list: &List) -> Result<Outcome, String> {
+    match s.x {
+        OfQ(_) => by_rust(s, list),
+        Alone(_) => Ok(chains::search(s, list)),
+    }
+}
+
+/// What comes out as the Rust's users get it, the count from its routine, which must come to the same. Too few elements only the users'
+/// call refuses, so the routine isn't asked then, and the count is a refusal's, 0.
+fn by_rust(s: &Settings, list: &List) -> Result<Outcome, String> {
     let elements = list.elements();
     let answer = original::prove(s, &elements);
     if let Err(number @ ffi::NOT_ENOUGH) = answer {
@@ -181,7 +190,7 @@ pub fn any_settings(rng: &mut Rng) -> Settings {
         max_retries: if rng.below(16) == 0 { 0 } else { 1 + rng.below(4) },
         search_width,
         dfs_bound: rng.below(2 << bits),
-        q: any_q(rng, search_width),
+        x: OfQ(any_q(rng, search_width)),
     }
 }
 

@@ -1,10 +1,11 @@
-//! `alba_small_case` against the Rust's `param_small_case`: every figure, q bit for bit.
+//! `alba_small_case` against the Rust's `param_small_case`: every figure, X bit for bit as that of the Rust's q.
 
 use super::{fence::Fenced, Answered, Checked, Run};
+use crate::threshold::{self, halves};
 use crate::{ffi, rng::Rng};
 
 /// How many numbers are lent for the answer.
-pub const FIGURES: usize = 5;
+pub const FIGURES: usize = 6;
 
 pub fn run(run: &mut Run, cases: u64) -> Checked {
     let listed = listed();
@@ -25,7 +26,7 @@ pub fn run(run: &mut Run, cases: u64) -> Checked {
             run.count();
         }
     }
-    for length in [0, 1, 4, 6, 9] {
+    for length in [0, 1, 4, 5, 7, 9] {
         check(&mut run.rng, 1, 1.0, length)?;
         run.count();
     }
@@ -77,5 +78,6 @@ pub fn due(u: u64, c: f64, length: usize) -> (u32, Vec<u64>) {
         return (ffi::BAD_C, Vec::new());
     }
     let p = oracle::param_small_case(c, u);
-    (0, vec![p.proof_size, p.max_retries, p.search_width, p.dfs_bound, p.valid_proof_probability.to_bits()])
+    let [x_high, x_low] = halves(threshold::of(p.valid_proof_probability).expect("the small case's q is from 0 to 1"));
+    (0, vec![p.proof_size, p.max_retries, p.search_width, p.dfs_bound, x_high, x_low])
 }

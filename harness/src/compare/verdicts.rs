@@ -1,8 +1,10 @@
-//! `alba_verify` against the Rust's verifier: on each proof found, and on many damaged copies of it.
+//! `alba_verify` against the Rust's verifier and the specification's words (chains.rs), with an X by itself against these alone: on each proof
+//! found, and on many damaged copies of it.
 
 use super::blocks::Block;
 use super::searches::Outcome;
-use super::{rules, shown_list, Answered, Checked};
+use super::{bernoulli, chains, rules, shown_list, Answered, Checked};
+use crate::threshold::Threshold::{Alone, OfQ};
 use crate::{ffi, ffi::Settings, list::List, original, original::ProofOf, rng::Rng};
 
 /// A proof and the settings that it is held to.
@@ -22,9 +24,17 @@ impl Claim {
     }
 }
 
-/// The proof as it is, and its damaged copies: both verdicts on each.
+/// The proof as it is, its damaged copies, and the proof under other X's: both verdicts on each.
 pub fn of_proof(block: &mut Block, settings: &Settings, list: &List, found: &Outcome) -> Checked {
-    claims(&mut block.rng, settings, list, found).iter().try_for_each(|claim| check(block, claim))
+    let claims = claims(&mut block.rng, settings, list, found);
+    let under_other_x = claims.last().map_or(Vec::new(), under_other_x);
+    claims.iter().chain(&under_other_x).try_for_each(|claim| check(block, claim))
+}
+
+/// A proof under X's at and around the number of its last hash, where the verdict turns.
+fn under_other_x(proof: &Claim) -> Vec<Claim> {
+    let of = |x| Claim { settings: Settings { x: Alone(x), ..proof.settings }, ..proof.clone() };
+    chains::last_number(proof).map_or(Vec::new(), |number| bernoulli::near(number).map(of).to_vec())
 }
 
 /// The proof's damaged copies, and at the end the proof as it is, twice: its R may be the limit, which then is raised. What a damaged
@@ -60,11 +70,27 @@ pub fn verdict(claim: &Claim) -> Answered {
     let written = list.written();
     let lent = written.clone();
     let ours = ffi::verify(settings, *retry_counter, *search_counter, lent.lent());
-    let theirs = original::verify(settings, &ProofOf::from(*retry_counter, *search_counter, list.elements()));
-    if ours != theirs || lent != written {
-        return Err(format!("{}  ours: {ours}\n  the Rust: {theirs}\n  the list is {}\n", shown(claim), as_it_was(lent == written)));
+    let due = due(claim)?;
+    if ours != due || lent != written {
+        return Err(format!("{}  ours: {ours}\n  due: {due}\n  the list is {}\n", shown(claim), as_it_was(lent == written)));
     }
     Ok(ours)
+}
+
+/// What the specification's words say, which with a q is what the Rust says.
+fn due(claim: &Claim) -> Answered {
+    let by_words = chains::verify(claim);
+    match claim.settings.x {
+        OfQ(_) if by_rust(claim) != by_words => {
+            Err(format!("{}  the Rust: {}\n  by the specification's words: {by_words}\n", shown(claim), by_rust(claim)))
+        }
+        _ => Ok(by_words),
+    }
+}
+
+/// The Rust's verdict on a claim with a q.
+pub fn by_rust(claim: &Claim) -> u32 {
+    original::verify(&claim.settings, &ProofOf::from(claim.retry_counter, claim.search_counter, claim.list.elements()))
 }
 
 pub fn as_it_was(is_so: bool) -> &'static str {
@@ -77,13 +103,7 @@ pub fn as_it_was(is_so: bool) -> &'static str {
 
 pub fn shown(claim: &Claim) -> String {
     let s = &claim.settings;
-    format!(
-        "  {s:?}, q's bits 0x{:016x}\n  R {}, S {}\n{}",
-        s.q.to_bits(),
-        claim.retry_counter,
-        claim.search_counter,
-        shown_list(&claim.list)
-    )
+    format!("  {s:?}\n  R {}, S {}\n{}", claim.retry_counter, claim.search_counter, shown_list(&claim.list))
 }
 
 /// R and S beside their own, at the limits and beyond, and each in the place of the other.
@@ -110,8 +130,8 @@ fn other_counters(rng: &mut Rng, proof: &Claim) -> Vec<Claim> {
 fn other_settings(rng: &mut Rng, proof: &Claim) -> Vec<Claim> {
     let s = proof.settings;
     let settings = [
-        Settings { q: 0.0, max_retries: s.max_retries + 1, ..s },
-        Settings { q: s.q / 2.0, max_retries: s.max_retries + 1, ..s },
+        Settings { x: OfQ(0.0), max_retries: s.max_retries + 1, ..s },
+        Settings { x: s.x.halved(), max_retries: s.max_retries + 1, ..s },
         Settings { set_size: s.set_size + 1, max_retries: s.max_retries + 1, ..s },
         Settings { proof_size: s.proof_size + 1, ..s },
         Settings { max_retries: proof.retry_counter, ..s },

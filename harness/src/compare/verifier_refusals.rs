@@ -9,6 +9,7 @@ use crate::{
     ffi::Settings,
     list::{List, Written},
     rng::Rng,
+    threshold::Threshold::OfQ,
 };
 
 const BLOCK: u64 = 100;
@@ -57,7 +58,7 @@ pub fn any_search(rng: &mut Rng) -> Result<(Settings, List, Outcome), String> {
             max_retries: 8,
             search_width: 50,
             dfs_bound: 1000,
-            q: 0.3,
+            x: OfQ(0.3),
         };
         let list = searches::any_list(rng, settings.set_size as usize);
         let found = searches::due(&settings, &list)?;
@@ -87,7 +88,7 @@ fn cut(rng: &mut Rng, written: &mut Written) {
 
 /// Lists at and over their limits: a list that is lawful has another length than the proof's.
 fn listed() -> Vec<Claim> {
-    let settings = Settings { set_size: 3, proof_size: 3, max_retries: 2, search_width: 2, dfs_bound: 10, q: 0.5 };
+    let settings = Settings { set_size: 3, proof_size: 3, max_retries: 2, search_width: 2, dfs_bound: 10, x: OfQ(0.5) };
     faults::large_lists().into_iter().map(|list| Claim { settings, retry_counter: 1, search_counter: 1, list }).collect()
 }
 
@@ -140,7 +141,7 @@ fn check(block: &mut Block, claim: &Claim, written: &Written) -> Checked {
 fn nulls(block: &mut Block) -> Checked {
     let nothing = ffi::Listed { data: None, ends: None, marks: None, indexes: None };
     for (proof_size, q) in [(0, 1.0), (0, 0.0), (1, 1.0)] {
-        let settings = Settings { set_size: 3, proof_size, max_retries: 2, search_width: 2, dfs_bound: 10, q };
+        let settings = Settings { set_size: 3, proof_size, max_retries: 2, search_width: 2, dfs_bound: 10, x: OfQ(q) };
         let claim = Claim { settings, retry_counter: 1, search_counter: 1, list: List::default() };
         verdicts::check(block, &claim)?;
         let (null, empty) = (ffi::verify(&settings, 1, 1, nothing), ffi::verify(&settings, 1, 1, claim.list.written().lent()));

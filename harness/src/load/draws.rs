@@ -1,8 +1,9 @@
 //! Settings and lists from the whole of the specification's domain, and how long a search of them may take.
 
 use crate::compare::rules::{BYTES, ELEMENTS, MOST};
-use crate::compare::searches;
 use crate::compare::verdicts::Claim;
+use crate::compare::{bernoulli, searches};
+use crate::threshold::Threshold::{self, Alone, OfQ};
 use crate::{ffi::Settings, list::List, rng::Rng};
 
 /// The most data bytes of a list, all elements together. Full lists are run by themselves.
@@ -30,7 +31,17 @@ pub fn any_settings(rng: &mut Rng) -> Settings {
         max_retries: up_to(rng, MOST.max_retries),
         search_width: up_to(rng, MOST.search_width),
         dfs_bound: up_to(rng, MOST.dfs_bound),
-        q: searches::any_q(rng, one_in),
+        x: any_x(rng, one_in),
+    }
+}
+
+/// Mostly that of a q, with which the Rust is run; else an X by itself: about as great as one of a q, or of any size.
+fn any_x(rng: &mut Rng, one_in: u64) -> Threshold {
+    let q = searches::any_q(rng, one_in);
+    match rng.below(8) {
+        0 => Alone(bernoulli::any_x(rng)),
+        1 => Alone(OfQ(q).x() ^ u128::from(rng.word())),
+        _ => OfQ(q),
     }
 }
 

@@ -13,7 +13,8 @@ use std::thread;
 use std::time::{Duration, Instant};
 
 /// The exported calls, as the tallies name them.
-const CALLS: [&str; 9] = ["uniform", "Bernoulli", "hash", "small case", "distinctness", "prove", "verify", "write ticket", "read ticket"];
+const CALLS: [&str; 10] =
+    ["uniform", "Bernoulli", "threshold", "hash", "small case", "distinctness", "prove", "verify", "write ticket", "read ticket"];
 /// How often a line says how far it is.
 const EVERY: Duration = Duration::from_secs(10);
 

@@ -5,7 +5,8 @@ use crate::compare::blocks::Block;
 use crate::compare::planted::{NUMBERS, PLANTS, SHAPES};
 use crate::compare::rules::{BYTES, ELEMENTS, MOST};
 use crate::compare::{
-    bernoulli, distinct, faults, hash, prover_refusals, refusals, searches, small_case, tickets, uniform, verdicts, verifier_refusals,
+    bernoulli, distinct, faults, hash, prover_refusals, refusals, searches, small_case, threshold, tickets, uniform, verdicts,
+    verifier_refusals,
 };
 use crate::compare::{Answered, Checked};
 use crate::{ffi, ffi::Settings, list::List, rng::Rng, ticket::Proof};
@@ -70,9 +71,17 @@ fn samplers(block: &mut Block) -> Checked {
     let answer = refusals::uniform_of(rng, h_len, n, out_len);
     note(block, "uniform", answer)?;
     let rng = &mut block.rng;
-    let q = if rng.below(8) == 0 { f64::from_bits(rng.word()) } else { bernoulli::any_q(rng) };
-    let h_len = any_length(rng, 16);
-    let answer = refusals::bernoulli_of(rng, h_len, q);
+    let (x, h_len) = (bernoulli::any_x(rng), any_length(rng, 16));
+    let answer = refusals::bernoulli_of(rng, h_len, x);
+    note(block, "Bernoulli", answer)?;
+    let rng = &mut block.rng;
+    let (q, out_len) = (threshold::any(rng), any_length(rng, threshold::WORDS));
+    let answer = threshold::check(rng, q, out_len);
+    note(block, "threshold", answer)?;
+    let rng = &mut block.rng;
+    let q = bernoulli::any_q(rng);
+    let i = bernoulli::any_hash(rng, q);
+    let answer = bernoulli::check(rng, i, q);
     note(block, "Bernoulli", answer)
 }
 

@@ -57,10 +57,10 @@ written (missing count) places = places
 unfoldable pub writtenFrom : Params → ℕ → Ended Chain → List ℕ → List ℕ
 writtenFrom p depth r places = cond (ltb depth (p .«proof_size»)) (written r places) places
 
--- ---- what the search is given: settings that pass the check with the threshold X, an accepted list, the try's bin table, and room
+-- ---- what the search is given: settings that pass the check, an accepted list, the try's bin table, and room
 
-pub record Ready (p : Params) (X : ℕ) (bytes ends marks indexes : List ℕ) (R : ℕ) (table : List ℕ) (room : ℕ) : Type 0 where
-  pub settings : checked p ≡ (0, X)
+pub record Ready (p : Params) (bytes ends marks indexes : List ℕ) (R : ℕ) (table : List ℕ) (room : ℕ) : Type 0 where
+  pub settings : checked p ≡ 0
   pub list : listCheck bytes ends marks indexes ≡ 0
   pub rest : List ℕ
   pub table-is : table ≡ tableOf (p .«set_size») (binsOf (tryOn p bytes ends marks indexes R)) ++ rest

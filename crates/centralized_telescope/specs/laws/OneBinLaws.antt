@@ -1,29 +1,24 @@
 -- With set_size 1 every draw is 0: all kept places are in the one bin and every round exists, so that the existing chains of a try are
--- counted without a hash. With q 0 none of them passes, so that all tries are made.
+-- counted without a hash. With X 0 none of them passes, so that all tries are made.
 use mathlib.Core.Path.{_≡_, refl, ap, _∙_}
-use mathlib.Core.Bool.{Bool, false, cond}
+use mathlib.Core.Bool.{Bool, false}
 use mathlib.Core.List.{List, [], _∷_, _++_}
 use mathlib.Core.Option.{none, some}
 use Prim.Native.Nat.{ℕ, zero, suc, _+_, _*_, min}
 use native.Mathlib.Omega.{arith}
-use borrow.Author.Tests.{le-ltb}
-use lib.Dec.{eqb, leb, ltb}
-use lib.IntN.{pos}
-use lib.Ieee.{fin, isNan, lt}
+use lib.Dec.{eqb, leb}
 use lib.ListN.{length, take, length-append}
-use Rattle.sampling.specs.BigEndian.{bigEndian}
 use Rattle.sampling.specs.Fips180.{sha256}
-use Rattle.sampling.specs.Sample.{outside, threshold, thresholdOrRefusal}
+use Rattle.sampling.specs.laws.SampleLaws.{none-below}
 use Rattle.centralized_telescope.specs.declared.params.Params.{Params}
 use Rattle.centralized_telescope.specs.laws.TestLaws.{either-way}
 use Rattle.centralized_telescope.specs.Elements.{Element}
 use Rattle.centralized_telescope.specs.Lists.{firstOf, upToFirst}
 use Rattle.centralized_telescope.specs.Rounds.{proofLabel, startHash, saysYes}
-use Rattle.centralized_telescope.specs.laws.RoundsLaws.{drawnBelow-one, binOf-one, yes-below}
+use Rattle.centralized_telescope.specs.laws.RoundsLaws.{drawnBelow-one, binOf-one}
 use Rattle.centralized_telescope.specs.Bins.{placesFrom}
 use Rattle.centralized_telescope.specs.Chains.{Try, tryOf, Chain}
 use Rattle.centralized_telescope.specs.Search.{binList, placesIn, nextAt, idOf, grown, along, chains, chainsAt, chainsFrom, existing, passing, tryCount, tryFinds, unlessFound, triesFrom}
-use Rattle.centralized_telescope.specs.inner.RoundAnswers.{belowX}
 
 -- 1 + m + m^2 + .. + m^k: the chains of at most k places, all of them out of m
 unfoldable pub treeSize : ℕ → ℕ → ℕ
@@ -83,7 +78,7 @@ module _ (T : Try) (one : T .settings .«set_size» ≡ 1) where
 
   -- ---- and where nothing passes
 
-  module _ (no : (h : List ℕ) → saysYes (T .settings .q) h ≡ false) where
+  module _ (no : (h : List ℕ) → saysYes (T .settings .x) h ≡ false) where
     passing-never : (c : Chain) → passing T c ≡ false
     unfolding passing
     passing-never c = rw (no (c .last)) (either-way (eqb (length (c .places)) (T .settings .«proof_size»)) false)
@@ -110,15 +105,8 @@ module _ (p : Params) (es : List Element) (finds : (R : ℕ) → tryFinds (tryOf
   tries-count k C zero R sum = omega arith
   tries-count k C (suc w) R sum = rw (finds (R + 1), C (R + 1)) (tries-count k C w (R + 1) (sum + k) ∙ omega arith)
 
--- ---- with q 0 nothing passes: no number is below X
+-- ---- with X 0 nothing passes: no number is below it
 
-none-below : (h : List ℕ) → belowX 0 h ≡ false
-unfolding belowX
-none-below h = go (bigEndian 16 (take 16 (sha256 (proofLabel ++ h))))
-  where
-    go : (i : ℕ) → ltb i 0 ≡ false
-    go i = le-ltb i 0 (omega arith)
-
-pub never-yes : (h : List ℕ) → saysYes (fin false 0 (pos 0)) h ≡ false
-unfolding outside threshold thresholdOrRefusal isNan lt
-never-yes h = yes-below (fin false 0 (pos 0)) 0 h refl ∙ none-below h
+pub never-yes : (h : List ℕ) → saysYes (record { hi = 0; lo = 0 }) h ≡ false
+unfolding saysYes
+never-yes h = none-below (take 16 (sha256 (proofLabel ++ h)))

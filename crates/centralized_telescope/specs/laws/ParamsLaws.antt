@@ -1,12 +1,10 @@
 -- Laws of the settings' definitions. A caller that cites these opens none of the definitions.
-use mathlib.Core.Path.{_≡_, refl, sym, ap, _∙_}
+use mathlib.Core.Path.{_≡_, refl, sym, _∙_}
 use mathlib.Core.Bool.{Bool, true, false}
 use Prim.Native.Nat.{ℕ, _-_, _^_, _≤_, _<_}
 use native.Mathlib.Omega.{arith}
 use borrow.Author.Tests.{le-ltb, ltb-false}
 use lib.Dec.{ltb}
-use Rattle.sampling.specs.Sample.{outsideUnit, threshold, thresholdOrRefusal}
-use Rattle.sampling.specs.laws.SampleLaws.{threshold-refused, threshold-at}
 use Rattle.centralized_telescope.specs.declared.params.Params.{Params}
 use Rattle.centralized_telescope.specs.laws.TestLaws.{neither}
 use Rattle.centralized_telescope.specs.Params.{notOneTo, setSizeOut, limitBroken, checked}
@@ -27,16 +25,10 @@ pub record Limits (p : Params) : Type 0 where
   pub search-width : p .«search_width» ≤ 2 ^ 32 - 1
   pub dfs-bound : p .«dfs_bound» ≤ 2 ^ 48
 
--- all that settings keep which pass the check, and what it then hands over: X of q
-pub record Lawful (p : Params) (x : ℕ) : Type 0 where
+-- all that settings keep which pass the check
+pub record Lawful (p : Params) : Type 0 where
   pub set-size : (1 ≤ p .«set_size») × (p .«set_size» ≤ 32768)
   pub limits : Limits p
-  pub unit : outsideUnit (p .q) ≡ false
-  pub threshold-is : x ≡ threshold (p .q)
-
--- the number of an answer with X, alone
-pub number-alone : {a : ℕ × ℕ} {k x : ℕ} → a ≡ (k, x) → a .0 ≡ k
-number-alone e = ap (λ (a : ℕ × ℕ). a .0) e
 
 module _ (p : Params) where
   pub limits-kept : limitBroken p ≡ false → Limits p
@@ -63,36 +55,30 @@ module _ (p : Params) where
       )
 
   -- by the tests, in the table's order
-  pub set-size-refused : setSizeOut (p .«set_size») ≡ true → checked p ≡ (1, 0)
+  pub set-size-refused : setSizeOut (p .«set_size») ≡ true → checked p ≡ 1
   unfolding checked
   set-size-refused s = rw s
 
   module _ (s : setSizeOut (p .«set_size») ≡ false) where
-    pub limit-refused : limitBroken p ≡ true → checked p ≡ (2, 0)
+    pub limit-refused : limitBroken p ≡ true → checked p ≡ 2
     unfolding checked
     limit-refused l = rw (s, l)
 
-    pub left-to-q : limitBroken p ≡ false → checked p ≡ thresholdOrRefusal (p .q)
+    pub none-refused : limitBroken p ≡ false → checked p ≡ 0
     unfolding checked
-    left-to-q l = rw (s, l)
+    none-refused l = rw (s, l)
 
-    pub passes : Limits p → outsideUnit (p .q) ≡ false → checked p ≡ (0, threshold (p .q))
-    passes l o = left-to-q (within-limits l) ∙ threshold-at (p .q) o
+    pub passes : Limits p → checked p ≡ 0
+    passes l = none-refused (within-limits l)
 
   -- what a caller knows of settings that pass
-  pub lawful : (x : ℕ) → checked p ≡ (0, x) → Lawful p x
-  lawful x e = go (setSizeOut (p .«set_size»)) refl (limitBroken p) refl (outsideUnit (p .q)) refl
+  pub lawful : checked p ≡ 0 → Lawful p
+  lawful e = go (setSizeOut (p .«set_size»)) refl (limitBroken p) refl
     where
-      never : {k : ℕ} → 0 < k → checked p ≡ (k, 0) → Lawful p x
-      never k f = absurd (let z = ap (λ (a : ℕ × ℕ). a .0) (sym f ∙ e) in omega arith)
+      never : {k : ℕ} → 0 < k → checked p ≡ k → Lawful p
+      never l f = absurd (let z = sym f ∙ e in omega arith)
 
-      go : (s : Bool) → setSizeOut (p .«set_size») ≡ s → (l : Bool) → limitBroken p ≡ l → (o : Bool) → outsideUnit (p .q) ≡ o → Lawful p x
-      go true s l L o O = never (omega arith) (set-size-refused s)
-      go false s true L o O = never (omega arith) (limit-refused s L)
-      go false s false L true O = never (omega arith) (left-to-q s L ∙ threshold-refused (p .q) O)
-      go false s false L false O = record {
-        set-size = one-to s;
-        limits = limits-kept L;
-        unit = O;
-        threshold-is = ap (λ (a : ℕ × ℕ). a .1) (sym e ∙ left-to-q s L ∙ threshold-at (p .q) O);
-      }
+      go : (s : Bool) → setSizeOut (p .«set_size») ≡ s → (l : Bool) → limitBroken p ≡ l → Lawful p
+      go true s l L = never (omega arith) (set-size-refused s)
+      go false s true L = never (omega arith) (limit-refused s L)
+      go false s false L = record { set-size = one-to s; limits = limits-kept L }

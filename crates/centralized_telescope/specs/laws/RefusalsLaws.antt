@@ -8,7 +8,6 @@ use Rattle.centralized_telescope.specs.Refusals.{refusalNumber}
 pub refusal-number : (k : Refusal) → refusalNumber k ≡ 0 → ⊥
 refusal-number refusal.SetSize e = omega arith
 refusal-number refusal.Limit e = omega arith
-refusal-number refusal.Probability e = omega arith
 refusal-number refusal.Malformed e = omega arith
 refusal-number refusal.TooLarge e = omega arith
 refusal-number refusal.WorkspaceShort e = omega arith

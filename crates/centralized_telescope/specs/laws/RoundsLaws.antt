@@ -1,21 +1,17 @@
 -- Laws of rounds and bins. A caller that cites these opens none of the definitions.
 use mathlib.Core.Path.{_≡_, refl, ap, _∙_}
 use mathlib.Core.Bool.{Bool, true, false, cond}
-use mathlib.Core.List.{List, _++_}
+use mathlib.Core.List.{List}
 use mathlib.Core.Option.{none, some}
 use Prim.Native.Nat.{ℕ, _<_}
 use native.Mathlib.Omega.{arith}
 use borrow.Author.Tests.{eqb-true}
-use lib.Dec.{eqb, ltb}
-use lib.Ieee.{Float}
+use lib.Dec.{eqb}
 use lib.ListN.{take}
-use Rattle.sampling.specs.BigEndian.{bigEndian}
-use Rattle.sampling.specs.Fips180.{sha256}
-use Rattle.sampling.specs.Sample.{uniform, thresholdOrRefusal}
-use Rattle.sampling.specs.laws.SampleLaws.{drawn-below, drawn-of-one, bernoulli-at}
+use Rattle.sampling.specs.Sample.{uniform}
+use Rattle.sampling.specs.laws.SampleLaws.{drawn-below, drawn-of-one}
 use Rattle.centralized_telescope.specs.Elements.{Element}
-use Rattle.centralized_telescope.specs.Rounds.{proofLabel, drawn, drawnBelow, binOf, saysYes}
-use Rattle.centralized_telescope.specs.inner.RoundAnswers.{belowX}
+use Rattle.centralized_telescope.specs.Rounds.{drawn, drawnBelow, binOf}
 
 -- ---- what is drawn is below n, and with n = 1 it is 0
 
@@ -43,15 +39,3 @@ binOf-below n R i e b = drawnBelow-below n i _ b
 pub binOf-one : (R : ℕ) (e : Element) → binOf 1 R e ≡ some 0
 unfolding binOf
 binOf-one R e = drawnBelow-one _
-
--- ---- the yes or no, where X is worked out already
-
-pub yes-below : (q : Float) (x : ℕ) (h : List ℕ) → thresholdOrRefusal q ≡ (0, x) → saysYes q h ≡ belowX x h
-unfolding saysYes belowX
-yes-below q x h e =
-    let i = bigEndian 16 (take 16 (sha256 (proofLabel ++ h))) in
-    ap (λ (k : ℕ). eqb k 1) (bernoulli-at (take 16 (sha256 (proofLabel ++ h))) q x e) ∙ one (ltb i x)
-  where
-    one : (t : Bool) → eqb (cond t 1 0) 1 ≡ t
-    one true = refl
-    one false = refl

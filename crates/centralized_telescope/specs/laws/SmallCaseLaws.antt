@@ -1,5 +1,5 @@
 -- Laws of the small case: its answer by its tests, and that its settings keep the limits of the check.
-use mathlib.Core.Path.{_≡_, refl, sym, ap, _∙_, subst}
+use mathlib.Core.Path.{_≡_, refl, sym, _∙_, subst}
 use mathlib.Core.Bool.{Bool, true, false, not, cond, _&&_}
 use mathlib.Core.Logic.{inl, inr}
 use Prim.Native.Nat.{ℕ, zero, suc, _+_, _-_, _*_, _/_, _%_, _^_, _≤_, _<_}
@@ -9,7 +9,7 @@ use borrow.Author.Tests.{ltb-false, le-ltb, eqb-false}
 use lib.Dec.{T, ltb, eqb}
 use lib.Ieee.{Float, nan, inf, fin, binary64, up, down, isNan, lt, ofBits, ofInt, round, add, mul, div}
 use lib.Ieee.Fits.{up-pos, and-l, and-r}
-use Rattle.sampling.specs.Sample.{outside, outsideUnit, threshold}
+use Rattle.sampling.specs.Sample.{outside, outsideUnit}
 use Rattle.centralized_telescope.specs.declared.params.Params.{Params}
 use Rattle.centralized_telescope.specs.declared.params.SmallSettings.{SmallSettings}
 use Rattle.centralized_telescope.specs.Params.{setSizeOut, checked, floor, ceil, asDouble, L, beforeCeil, searchWidth, probability, beforeFloor, dfsBound, smallSettings, zeros, proofSizeOut, completenessOut, smallCase}
@@ -148,10 +148,6 @@ module _ (u : ℕ) (p : proofSizeOut u ≡ false) where
   unfolding dfsBound
   bound-most = floor-most (2 ^ 48) (beforeFloor u (searchWidth u)) (inside (2 ^ 48) (beforeFloor u (searchWidth u)) (in-range u p .before-floor))
 
-small-unit : (u : ℕ) (c : Float) → proofSizeOut u ≡ false → outsideUnit (smallSettings u c .q) ≡ false
-unfolding smallSettings
-small-unit u c p = in-range u p .unit
-
 -- ---- the settings of the small case are lawful, with any set_size in its range
 
 abbrev pub withSetSize : ℕ → SmallSettings → Params
@@ -161,7 +157,7 @@ withSetSize n s = record {
   «max_retries» = s .«max_retries»;
   «search_width» = s .«search_width»;
   «dfs_bound» = s .«dfs_bound»;
-  q = s .q;
+  x = s .x;
 }
 
 module _ (n u : ℕ) (c : Float) (p : proofSizeOut u ≡ false) (o : completenessOut c ≡ false) where
@@ -174,18 +170,5 @@ module _ (n u : ℕ) (c : Float) (p : proofSizeOut u ≡ false) (o : completenes
     dfs-bound = bound-most u p;
   }
 
-  pub small-case-lawful : setSizeOut n ≡ false → checked (withSetSize n (smallSettings u c)) ≡ (0, threshold (smallSettings u c .q))
-  unfolding smallSettings
-  small-case-lawful s = passes (withSetSize n (smallSettings u c)) s keeps-limits (in-range u p .unit)
-
--- settings that are given have a q that the check admits
-pub given-unit : (u : ℕ) (c : Float) (s : SmallSettings) → (0, s) ≡ smallCase u c → outsideUnit (s .q) ≡ false
-given-unit u c s e = go (proofSizeOut u) refl (completenessOut c) refl
-  where
-    number : (k : ℕ) {t : SmallSettings} → smallCase u c ≡ (k, t) → 0 ≡ k
-    number k f = ap (λ (a : ℕ × SmallSettings). a .0) (e ∙ f)
-
-    go : (a : Bool) → proofSizeOut u ≡ a → (b : Bool) → completenessOut c ≡ b → outsideUnit (s .q) ≡ false
-    go true p b o = absurd (let n = number 30 (proof-size-refused u c p) in omega arith)
-    go false p true o = absurd (let n = number 31 (completeness-refused u c p o) in omega arith)
-    go false p false o = rw (ap (λ (a : ℕ × SmallSettings). a .1) (e ∙ settings-given u c p o)) (small-unit u c p)
+  pub small-case-lawful : setSizeOut n ≡ false → checked (withSetSize n (smallSettings u c)) ≡ 0
+  small-case-lawful s = passes (withSetSize n (smallSettings u c)) s keeps-limits

@@ -58,13 +58,13 @@ module _ (p : Params) (R : ℕ) where
         go (some i) q v = (i, q, follow-grows (startHash R S) i es g v)
 
     -- yes exactly when the chain exists and its last hash says yes
-    pub yes-exists : yesOn (p .q) (lastHash p R S es) ≡ true → (last : List ℕ) × ElementsExist p R S es last × (saysYes (p .q) last ≡ true)
+    pub yes-exists : yesOn (p .x) (lastHash p R S es) ≡ true → (last : List ℕ) × ElementsExist p R S es last × (saysYes (p .x) last ≡ true)
     yes-exists e = go (lastHash p R S es) refl e
       where
-        go : (o : Option (List ℕ)) → lastHash p R S es ≡ o → yesOn (p .q) o ≡ true
-            → (last : List ℕ) × ElementsExist p R S es last × (saysYes (p .q) last ≡ true)
+        go : (o : Option (List ℕ)) → lastHash p R S es ≡ o → yesOn (p .x) o ≡ true
+            → (last : List ℕ) × ElementsExist p R S es last × (saysYes (p .x) last ≡ true)
         go none q v = absurd (subst T (sym v) tt)
         go (some g) q v = (g, last-exist g q, v)
 
-    pub exists-yes : (last : List ℕ) → ElementsExist p R S es last → saysYes (p .q) last ≡ true → yesOn (p .q) (lastHash p R S es) ≡ true
+    pub exists-yes : (last : List ℕ) → ElementsExist p R S es last → saysYes (p .x) last ≡ true → yesOn (p .x) (lastHash p R S es) ≡ true
     exists-yes g x y = rw (exist-last g x) y

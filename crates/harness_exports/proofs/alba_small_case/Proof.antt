@@ -2,12 +2,10 @@
 use mathlib.Core.Path.{sym, ap, _∙_}
 use mathlib.Core.List.{List}
 use Prim.Native.Nat.{ℕ}
-use Rattle.sampling.specs.laws.SampleLaws.{inside-no-nan}
 use Rattle.centralized_telescope.specs.Refusals.{refusalNumber}
 use Rattle.centralized_telescope.specs.laws.RefusalsLaws.{refusal-number}
 use Rattle.centralized_telescope.specs.Params.{smallCaseNumber, zeros}
-use Rattle.centralized_telescope.specs.laws.SmallCaseLaws.{given-unit}
-use Rattle.harness_exports.proofs.Answer.{not-five, answered, not-settled}
+use Rattle.harness_exports.proofs.Answer.{not-six, answered, not-settled}
 use borrow.Author.Needs.{needs}
 use Rattle.harness_exports.proofs.alba_small_case.Statement.{statement}
 use Rattle.harness_exports.proofs.alba_small_case.Tie as tie
@@ -15,7 +13,7 @@ use Rattle.harness_exports.proofs.alba_small_case.Tie as tie
 returns : tie.Need-returns
 returns c =
     let z = c .before .before .args in
-    not-five (z .u) (z .c) (z .out .now) (c .if1 .taken)
+    not-six (z .u) (z .c) (z .out .now) (c .if1 .taken)
 
 param-small-case-requires : tie.Need-param-small-case-requires
 param-small-case-requires c κs = search needs
@@ -24,11 +22,7 @@ enum-known-answer : tie.Need-enum-known-answer
 enum-known-answer c = search needs
 
 put-settings-requires : tie.Need-put-settings-requires
-put-settings-requires c κs =
-    let a = c .before .before .answer .given in
-    let z = c .before .before .before .before .before .before .before .args in
-    let e = sym (ap smallCaseNumber (a .1)) ∙ c .before .before .before .before .param-small-case .ensures in
-    (search needs, inside-no-nan (a .0 .0 .q) (given-unit (z .u) (z .c) (a .0 .0) e))
+put-settings-requires c κs = search needs
 
 enum-known-answer-2 : tie.Need-enum-known-answer-2
 enum-known-answer-2 c = search needs

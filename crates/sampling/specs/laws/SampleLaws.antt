@@ -3,16 +3,17 @@ use mathlib.Core.Path.{_≡_, refl, sym, ap, _∙_, subst}
 use mathlib.Core.Bool.{Bool, true, false, not, cond, _||_}
 use mathlib.Core.List.{List}
 use mathlib.Core.Logic.{_⊎_, inl, inr}
-use Prim.Native.Nat.{ℕ, zero, suc, _-_, _*_, _%_, _^_, _≤_, _<_}
+use Prim.Native.Nat.{ℕ, zero, suc, _-_, _*_, _%_, _^_, _≤_, _<_, _+_, _/_}
 use native.Mathlib.Nat.{eq-or-lt-of-le, eq-zero-or-pos, mod-lt, mod-one, min-le-right, lt-of-le-of-lt}
 use native.Mathlib.Omega.{arith}
-use borrow.Author.Tests.{eq-eqb, ne-eqb, eqb-true, lt-ltb, le-ltb, ltb-true}
+use borrow.Author.Tests.{eq-eqb, ne-eqb, eqb-true, le-ltb}
 use lib.Dec.{T, leb, ltb, eqb, lit<}
 use lib.IntN.{pos}
 use lib.Ieee.{Float, nan, inf, fin, binary64, ofBits, isNan, lt, ne}
 use lib.Ieee.Compare.{differs-from-itself, nan-differs}
 use Rattle.sampling.specs.BigEndian.{bigEndian}
-use Rattle.sampling.specs.Sample.{isPower, D, modNotPower, uniform, outside, outsideUnit, floorOf, threshold, thresholdOrRefusal, bernoulli}
+use Rattle.sampling.specs.Sample.{isPower, D, modNotPower, uniform, outside, outsideUnit, floorOf, threshold, thresholdOrRefusal, valueOf, halvesOf, bernoulli}
+use Rattle.sampling.specs.declared.sample.U128.{U128}
 
 -- ---- powers of two: the test says yes exactly at 2 ^ 0, .. 2 ^ (k - 1)
 
@@ -146,40 +147,17 @@ pub threshold-at : (q : Float) → outsideUnit q ≡ false → thresholdOrRefusa
 unfolding thresholdOrRefusal
 threshold-at q o = rw o
 
-pub bernoulli-refused : (h : List ℕ) (q : Float) → outsideUnit q ≡ true → bernoulli h q ≡ 3
+-- no i is below 0
+pub none-below : (h : List ℕ) → bernoulli h 0 ≡ false
 unfolding bernoulli
-bernoulli-refused h q o = rw o
+none-below h = le-ltb (bigEndian 16 h) 0 (omega arith)
 
-pub bernoulli-is : (h : List ℕ) (q : Float) → outsideUnit q ≡ false → bernoulli h q ≡ cond (ltb (bigEndian 16 h) (threshold q)) 1 0
-unfolding bernoulli
-bernoulli-is h q o = rw o
+-- a number's halves are its own
+pub halves-of : (x : U128) → x .lo < 2 ^ 64 → halvesOf (valueOf x) ≡ x
+halves-of x l =
+    let p : (x .hi * 2 ^ 64 + x .lo) / 2 ^ 64 ≡ x .hi = omega arith in
+    let q : (x .hi * 2 ^ 64 + x .lo) % 2 ^ 64 ≡ x .lo = omega arith in
+    rw (p, q)
 
--- a q that is not refused: the yes is i < X
-module _ (h : List ℕ) (q : Float) (o : outsideUnit q ≡ false) where
-  pub yes-when-below : bigEndian 16 h < threshold q → bernoulli h q ≡ 1
-  yes-when-below l = bernoulli-is h q o ∙ ap (λ (t : Bool). cond t 1 0) (lt-ltb _ _ l)
-
-  pub no-when-not-below : threshold q ≤ bigEndian 16 h → bernoulli h q ≡ 0
-  no-when-not-below l = bernoulli-is h q o ∙ ap (λ (t : Bool). cond t 1 0) (le-ltb _ _ l)
-
-  pub below-when-yes : bernoulli h q ≡ 1 → bigEndian 16 h < threshold q
-  below-when-yes y = go (ltb (bigEndian 16 h) (threshold q)) refl (sym (bernoulli-is h q o) ∙ y)
-    where
-      go : (t : Bool) → ltb (bigEndian 16 h) (threshold q) ≡ t → _≡_ {A = ℕ} (cond t 1 0) 1 → bigEndian 16 h < threshold q
-      go true e y = ltb-true _ _ e
-      go false e y = absurd (omega arith)
-
--- where `thresholdOrRefusal` gives X, the answer is by i < X; where it refuses, it is the refusal
-pub bernoulli-at : (h : List ℕ) (q : Float) (x : ℕ) → thresholdOrRefusal q ≡ (0, x) → bernoulli h q ≡ cond (ltb (bigEndian 16 h) x) 1 0
-bernoulli-at h q x e = go (outsideUnit q) refl
-  where
-    go : (t : Bool) → outsideUnit q ≡ t → bernoulli h q ≡ cond (ltb (bigEndian 16 h) x) 1 0
-    go true o = absurd (let s = ap (λ (a : ℕ × ℕ). a .0) (sym (threshold-refused q o) ∙ e) in omega arith)
-    go false o = bernoulli-is h q o ∙ ap (λ (k : ℕ). cond (ltb (bigEndian 16 h) k) 1 0) (ap (λ (a : ℕ × ℕ). a .1) (sym (threshold-at q o) ∙ e))
-
-pub bernoulli-not : (h : List ℕ) (q : Float) → thresholdOrRefusal q ≡ (3, 0) → bernoulli h q ≡ 3
-bernoulli-not h q e = go (outsideUnit q) refl
-  where
-    go : (t : Bool) → outsideUnit q ≡ t → bernoulli h q ≡ 3
-    go true o = bernoulli-refused h q o
-    go false o = absurd (let s = ap (λ (a : ℕ × ℕ). a .0) (sym (threshold-at q o) ∙ e) in omega arith)
+pub value-of : (X : ℕ) → valueOf (halvesOf X) ≡ X
+value-of X = omega arith

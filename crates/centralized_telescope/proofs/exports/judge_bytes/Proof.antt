@@ -10,21 +10,21 @@ use Rattle.centralized_telescope.proofs.exports.judge_bytes.Tie as tie
 
 -- as many numbers as marks
 ends-read : (s : tie.Start) → length (numbersOf 4 (s .args .ends .now)) ≡ length (s .args .marks .now)
-ends-read s = ends-many (s .args .«data» .now) (s .args .ends .now) (s .args .marks .now) (s .args .indexes .now) (s .pre .1)
+ends-read s = ends-many (s .args .«data» .now) (s .args .ends .now) (s .args .marks .now) (s .args .indexes .now) (s .pre .0)
 
 indexes-read : (s : tie.Start) → length (numbersOf 8 (s .args .indexes .now)) ≡ length (s .args .marks .now)
-indexes-read s = indexes-many (s .args .«data» .now) (s .args .ends .now) (s .args .marks .now) (s .args .indexes .now) (s .pre .1)
+indexes-read s = indexes-many (s .args .«data» .now) (s .args .ends .now) (s .args .marks .now) (s .args .indexes .now) (s .pre .0)
 
 array-borrow-prefix-end-numbers : tie.Need-array-borrow-prefix-end-numbers
 array-borrow-prefix-end-numbers c = search needs
 
 slice-aggregate-read-ends : tie.Need-slice-aggregate-read-ends
-slice-aggregate-read-ends c = sym (length-take-le _ _ (c .before .before .before .before .before .pre .2))
+slice-aggregate-read-ends c = sym (length-take-le _ _ (c .before .before .before .before .before .pre .1))
 
 read-ends-requires : tie.Need-read-ends-requires
 read-ends-requires c κs =
     let s = c .before .before .before .before .before in
-    ends-room (s .args .«data» .now) (s .args .ends .now) (s .args .marks .now) (s .args .indexes .now) (s .pre .1) _ (s .pre .2)
+    ends-room (s .args .«data» .now) (s .args .ends .now) (s .args .marks .now) (s .args .indexes .now) (s .pre .0) _ (s .pre .1)
 
 array-borrow-prefix-index-numbers : tie.Need-array-borrow-prefix-index-numbers
 array-borrow-prefix-index-numbers c = search needs
@@ -32,12 +32,12 @@ array-borrow-prefix-index-numbers c = search needs
 slice-aggregate-read-indexes : tie.Need-slice-aggregate-read-indexes
 slice-aggregate-read-indexes c =
     let o = c .before .before .before .before .before .before .before .before in
-    sym (length-take-le _ _ (o .pre .2))
+    sym (length-take-le _ _ (o .pre .1))
 
 read-indexes-requires : tie.Need-read-indexes-requires
 read-indexes-requires c κs =
     let s = c .before .before .before .before .before .before .before .before in
-    indexes-room (s .args .«data» .now) (s .args .ends .now) (s .args .marks .now) (s .args .indexes .now) (s .pre .1) _ (s .pre .2)
+    indexes-room (s .args .«data» .now) (s .args .ends .now) (s .args .marks .now) (s .args .indexes .now) (s .pre .0) _ (s .pre .1)
 
 array-share-prefix-end-numbers : tie.Need-array-share-prefix-end-numbers
 array-share-prefix-end-numbers c =
@@ -67,7 +67,7 @@ judge-requires : tie.Need-judge-requires
 judge-requires c κs =
     let at-read-ends = c .before .before .before .before .before .before in
     let s = at-read-ends .before .before .before .before .before .before in
-    (s .pre .0, fronts-accepted _ (s .args .«data» .now) (s .args .marks .now) _ _ _ _ _ _ (at-read-ends .read-ends .ensures) (c .before .before .before .read-indexes .ensures) (ends-read s) (indexes-read s) (s .pre .1))
+    fronts-accepted _ (s .args .«data» .now) (s .args .marks .now) _ _ _ _ _ _ (at-read-ends .read-ends .ensures) (c .before .before .before .read-indexes .ensures) (ends-read s) (indexes-read s) (s .pre .0)
 
 returns : tie.Need-returns
 returns c =

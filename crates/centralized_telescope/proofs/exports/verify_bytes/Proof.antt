@@ -1,53 +1,51 @@
 -- `verify_bytes`: the settings, the counts of bytes, the list, the room, then the judgement.
 use mathlib.Core.Path.{_≡_, sym, ap, _∙_}
-use Rattle.sampling.specs.Sample.{valueOf}
 use Rattle.centralized_telescope.specs.Elements.{elements, listCheck, listNumber}
 use Rattle.centralized_telescope.specs.Params.{checked, checkedNumber}
-use Rattle.centralized_telescope.specs.laws.ParamsLaws.{number-alone}
 use Rattle.centralized_telescope.specs.Verifier.{judged, verdict}
 use Rattle.centralized_telescope.specs.Exports.{numbersOf, exportedVerdict}
-use Rattle.centralized_telescope.proofs.VerdictAnswers.{threshold-passed, list-refused, left-to-judge}
+use Rattle.centralized_telescope.proofs.VerdictAnswers.{list-refused, left-to-judge}
 use Rattle.centralized_telescope.proofs.ExportAnswers.{bytes-settings-refused, ends-not-whole, indexes-not-whole, whole-counts, over-room}
 use borrow.Author.Needs.{needs}
 use Rattle.centralized_telescope.proofs.exports.verify_bytes.Statement.{statement}
 use Rattle.centralized_telescope.proofs.exports.verify_bytes.Tie as tie
 
--- the settings pass, with X
-lawful-settings : (s : tie.After-x) → checked (s .before .before .before .before .before .before .before .args .p) ≡ (0, valueOf (s .x .given .0 .0))
-lawful-settings s = sym (s .before .before .check-params .ensures) ∙ ap checkedNumber (s .x .given .1)
+-- the settings pass
+lawful-settings : (s : tie.After-enum-told) → checked (s .before .before .before .before .before .before .before .args .p) ≡ 0
+lawful-settings s = sym (s .before .before .check-params .ensures) ∙ ap checkedNumber (s .enum-told .given .1)
 
 -- both counts are whole: the exported verdict is the verdict on the numbers
 as-exported : (s : tie.Else2)
-    → (let a = s .before .before .before .before .before .before .before .before .before .before .args in
+    → (let a = s .before .before .before .before .before .before .before .before .before .args in
     verdict (a .p) (a .retry .0) (a .search .0) (a .«data» .now) (numbersOf 4 (a .ends .now)) (a .marks .now) (numbersOf 8 (a .indexes .now))
     ≡ exportedVerdict (a .p) (a .retry .0) (a .search .0) (a .«data» .now) (a .ends .now) (a .marks .now) (a .indexes .now))
 as-exported s =
-    let a = s .before .before .before .before .before .before .before .before .before .before .args in
+    let a = s .before .before .before .before .before .before .before .before .before .args in
     whole-counts (a .p) (a .retry .0) (a .search .0) (a .«data» .now) (a .ends .now) (a .marks .now) (a .indexes .now) (s .before .if1 .left) (s .if2 .left)
 
 -- the list is accepted
-accepted : (s : tie.After-enum-told)
-    → (let a = s .before .before .before .before .before .before .before .before .before .before .before .before .before .args in
+accepted : (s : tie.After-enum-told2)
+    → (let a = s .before .before .before .before .before .before .before .before .before .before .before .before .args in
     listCheck (a .«data» .now) (numbersOf 4 (a .ends .now)) (a .marks .now) (numbersOf 8 (a .indexes .now)) ≡ 0)
-accepted s = sym (s .before .before .check-bytes .ensures) ∙ ap listNumber (s .enum-told .given .1)
+accepted s = sym (s .before .before .check-bytes .ensures) ∙ ap listNumber (s .enum-told2 .given .1)
 
 -- and its elements are judged
-judged-so : (s : tie.After-enum-told)
-    → (let a = s .before .before .before .before .before .before .before .before .before .before .before .before .before .args in
+judged-so : (s : tie.After-enum-told2)
+    → (let a = s .before .before .before .before .before .before .before .before .before .before .before .before .args in
     judged (a .p) (a .retry .0) (a .search .0) (elements (a .«data» .now) (numbersOf 4 (a .ends .now)) (a .marks .now) (numbersOf 8 (a .indexes .now)))
     ≡ exportedVerdict (a .p) (a .retry .0) (a .search .0) (a .«data» .now) (a .ends .now) (a .marks .now) (a .indexes .now))
 judged-so s =
-    let there = s .before .before .before .before .before .before in
+    let there = s .before .before .before .before .before in
     let a = there .before .before .before .before .before .before .before .args in
     left-to-judge (a .p) (a .retry .0) (a .search .0) (a .«data» .now) (numbersOf 4 (a .ends .now)) (a .marks .now) (numbersOf 8 (a .indexes .now))
-    (number-alone (lawful-settings there)) (accepted s)
+    (lawful-settings there) (accepted s)
     ∙ as-exported (s .before .before .before)
 
 check-params-requires : tie.Need-check-params-requires
 check-params-requires c κs = search needs
 
-enum-known-x : tie.Need-enum-known-x
-enum-known-x c = search needs
+enum-told : tie.Need-enum-told
+enum-told c = search needs
 
 enum-known-k : tie.Need-enum-known-k
 enum-known-k c = search needs
@@ -60,21 +58,21 @@ returns c =
 
 returns-2 : tie.Need-returns-2
 returns-2 c =
-    let s = c .before .before in
+    let s = c .before in
     let a = s .before .before .before .before .before .before .before .args in
-    ends-not-whole (a .p) (a .retry .0) (a .search .0) (a .«data» .now) (a .ends .now) (a .marks .now) (a .indexes .now) (number-alone (lawful-settings s)) (c .if1 .taken)
+    ends-not-whole (a .p) (a .retry .0) (a .search .0) (a .«data» .now) (a .ends .now) (a .marks .now) (a .indexes .now) (lawful-settings s) (c .if1 .taken)
 
 returns-3 : tie.Need-returns-3
 returns-3 c =
-    let s = c .before .before .before in
+    let s = c .before .before in
     let a = s .before .before .before .before .before .before .before .args in
-    indexes-not-whole (a .p) (a .retry .0) (a .search .0) (a .«data» .now) (a .ends .now) (a .marks .now) (a .indexes .now) (number-alone (lawful-settings s)) (c .before .if1 .left) (c .if2 .taken)
+    indexes-not-whole (a .p) (a .retry .0) (a .search .0) (a .«data» .now) (a .ends .now) (a .marks .now) (a .indexes .now) (lawful-settings s) (c .before .if1 .left) (c .if2 .taken)
 
 check-bytes-requires : tie.Need-check-bytes-requires
 check-bytes-requires c κs = search needs
 
-enum-told : tie.Need-enum-told
-enum-told c = search needs
+enum-told-2 : tie.Need-enum-told-2
+enum-told-2 c = search needs
 
 enum-known-k-2 : tie.Need-enum-known-k-2
 enum-known-k-2 c = search needs
@@ -82,27 +80,27 @@ enum-known-k-2 c = search needs
 returns-4 : tie.Need-returns-4
 returns-4 c =
     let s = c .before in
-    let there = s .before .before .before .before .before .before in
+    let there = s .before .before .before .before .before in
     let a = there .before .before .before .before .before .before .before .args in
-    list-refused (a .p) (a .retry .0) (a .search .0) (a .«data» .now) (numbersOf 4 (a .ends .now)) (a .marks .now) (numbersOf 8 (a .indexes .now)) (number-alone (lawful-settings there))
+    list-refused (a .p) (a .retry .0) (a .search .0) (a .«data» .now) (numbersOf 4 (a .ends .now)) (a .marks .now) (numbersOf 8 (a .indexes .now)) (lawful-settings there)
     (s .k2 .given .0 .0) (sym (s .before .before .check-bytes .ensures) ∙ ap listNumber (s .k2 .given .1))
     ∙ as-exported (s .before .before .before)
 
 returns-5 : tie.Need-returns-5
 returns-5 c =
     let s = c .before in
-    let there = s .before .before .before .before .before .before in
+    let there = s .before .before .before .before .before in
     let a = there .before .before .before .before .before .before .before .args in
-    over-room (a .p) (a .retry .0) (a .search .0) (a .«data» .now) (numbersOf 4 (a .ends .now)) (a .marks .now) (numbersOf 8 (a .indexes .now)) _
+    over-room (a .p) (a .retry .0) (a .search .0) (a .«data» .now) (numbersOf 4 (a .ends .now)) (a .marks .now) (numbersOf 8 (a .indexes .now))
     (lawful-settings there) (accepted s) (c .if3 .taken)
     ∙ judged-so s
 
 judge-bytes-requires : tie.Need-judge-bytes-requires
 judge-bytes-requires c κs =
     let s = c .before in
-    let o = s .before .before .before .before .before .before in
+    let o = s .before .before .before .before .before in
     let start = o .before .before .before .before .before .before .before in
-    (threshold-passed (start .args .p) (valueOf (o .x .given .0 .0)) (lawful-settings o), accepted s, c .if3 .left)
+    (accepted s, c .if3 .left)
 
 returns-6 : tie.Need-returns-6
 returns-6 c = c .judge-bytes .ensures ∙ judged-so (c .before .before)
@@ -112,13 +110,13 @@ verify-bytes-spec =
     tie.close
     (tie.spec
     check-params-requires
-    enum-known-x
+    enum-told
     enum-known-k
     returns
     returns-2
     returns-3
     check-bytes-requires
-    enum-told
+    enum-told-2
     enum-known-k-2
     returns-4
     returns-5

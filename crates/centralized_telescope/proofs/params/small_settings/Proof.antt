@@ -8,6 +8,7 @@ use Rattle.centralized_telescope.specs.laws.ParamsLaws.{one-to}
 use Rattle.centralized_telescope.specs.laws.SmallCaseLaws.{wider, in-range, width-most}
 use Rattle.centralized_telescope.proofs.Whole.{counted}
 use Rattle.centralized_telescope.proofs.Figures.{before-ceil-is, before-floor-is, width-is, settings-are}
+use borrow.Author.Needs.{needs}
 use Rattle.centralized_telescope.proofs.params.small_settings.Statement.{statement}
 use Rattle.centralized_telescope.proofs.params.small_settings.Tie as tie
 
@@ -37,11 +38,14 @@ floor-of-requires c κs =
     let u = s .args .u in
     rw (before-floor-is u (c .before .ceil-of2 .result), width (c .before)) (wider (2 ^ 48) (2 ^ 52) (beforeFloor u (searchWidth u)) (lit≤ tt) (in-range u (s .pre .0) .before-floor))
 
+x-of-requires : tie.Need-x-of-requires
+x-of-requires c κs = search needs
+
 returns : tie.Need-returns
 returns c =
-    let d = c .before .before in
+    let d = c .before .before .before in
     let s = d .before .before .before in
-    settings-are (s .args .u) (d .ceil-of2 .result) (s .args .c) (d .before .ceil-of .result) (c .floor-of .result) (d .before .ceil-of .ensures) (width d) (c .floor-of .ensures)
+    settings-are (s .args .u) (d .ceil-of2 .result) (s .args .c) (d .before .ceil-of .result) (c .before .floor-of .result) (c .x-of .result) (d .before .ceil-of .ensures) (width d) (c .before .floor-of .ensures) (c .x-of .ensures)
 
 pub small-settings-spec : {M : Type 1} → statement M
 small-settings-spec =
@@ -52,4 +56,5 @@ small-settings-spec =
     ceil-of-requires-2
     int-to-float-d
     floor-of-requires
+    x-of-requires
     returns)

@@ -9,12 +9,11 @@ use borrow.Author.Needs.{needs}
 use lib.ListN.{length, take, getD, length-set}
 use lib.Seq.{slice, length-take-le, take-set-le}
 use Rattle.centralized_telescope.specs.Chains.{Try}
-use Rattle.sampling.specs.Sample.{valueOf}
 use Rattle.centralized_telescope.specs.inner.RoundAnswers.{idOption}
 use Rattle.centralized_telescope.specs.laws.TryLaws.{id-below}
 use Rattle.centralized_telescope.specs.inner.Visit.{tryOn, walked, outcomeOf, Ready}
 use Rattle.centralized_telescope.proofs.Measure.{left, to-walk, to-visit}
-use Rattle.centralized_telescope.proofs.TableFacts.{set-size-most, proof-size-most, bound-most, yes-is, table-all, table-most, entry-there, bin-span, bin-read, bin-short}
+use Rattle.centralized_telescope.proofs.TableFacts.{set-size-most, proof-size-most, bound-most, table-all, table-most, entry-there, bin-span, bin-read, bin-short}
 use Rattle.centralized_telescope.proofs.Walked.{visited-walk, visited-pass, visited-fail, stopped, by-walk, by-leaf}
 use Rattle.centralized_telescope.proofs.Turn.{at-end, at-bound, Turning, turn-nothing, turn-missing, turn-found, turn-write}
 use borrow.Fn.Kinds.{In}
@@ -35,13 +34,13 @@ use Rattle.centralized_telescope.proofs.proof.+visit+walk.Tie.{close}
 
 abbrev μ-visit : Measures 6 visit-kinds.ps ℕ
 μ-visit κs a =
-    let l : ℕ = length (a .1 .1 .1 .1 .1 .1 .1 .1 .0 .now) in
-    left (a .0 .«proof_size» - a .1 .1 .1 .1 .1 .1 .1 .1 .1 .1 .1 .1 .0) l (l + 1)
+    let l : ℕ = length (a .1 .1 .1 .1 .1 .1 .1 .0 .now) in
+    left (a .0 .«proof_size» - a .1 .1 .1 .1 .1 .1 .1 .1 .1 .1 .1 .0) l (l + 1)
 
 abbrev μ-walk : Measures 6 walk-kinds.ps ℕ
 μ-walk κs a =
-    left (a .0 .«proof_size» - a .1 .1 .1 .1 .1 .1 .1 .1 .1 .1 .1 .0) (length (a .1 .1 .1 .1 .1 .1 .1 .1 .0 .now))
-    (a .1 .1 .1 .1 .1 .1 .1 .1 .1 .1 .1 .1 .1 .0 - a .1 .1 .1 .1 .1 .1 .1 .1 .1 .1 .1 .1 .0)
+    left (a .0 .«proof_size» - a .1 .1 .1 .1 .1 .1 .1 .1 .1 .1 .0) (length (a .1 .1 .1 .1 .1 .1 .1 .0 .now))
+    (a .1 .1 .1 .1 .1 .1 .1 .1 .1 .1 .1 .1 .0 - a .1 .1 .1 .1 .1 .1 .1 .1 .1 .1 .1 .0)
 
 abbrev visit-at : ℕ → In 6 visit-kinds.ps
 visit-at t = and 6 visit-kinds.ps (is 6 visit-kinds.ps μ-visit t) visit.Pre
@@ -76,7 +75,7 @@ walk-claims t = (
 -- the path below the depth is as long as that
 visit-path : (t : ℕ) (o : visit-lts.Start (visit-claims t) (visit-at t) visit.Post) → length (take (o .args .depth) (o .args .path)) ≡ o .args .depth
 visit-path t o =
-    let e : length (o .args .path) ≡ 1024 = o .good .1 .1 .1 .1 .1 .1 .1 .1 .1 .1 .1 .0 .1 .0 .1 in
+    let e : length (o .args .path) ≡ 1024 = o .good .1 .1 .1 .1 .1 .1 .1 .1 .1 .1 .0 .1 .0 .1 in
     length-take-le (o .args .depth) (o .args .path) (omega (arith, o .pre .1 .1, proof-size-most (o .pre .1 .0)))
 
 visit-add-base : (t : ℕ) → visit-lts.Need-add-base (visit-claims t) (visit-at t) visit.Post
@@ -146,8 +145,8 @@ visit-returns t c =
 visit-proof-hash-requires : (t : ℕ) → visit-lts.Need-proof-hash-requires (visit-claims t) (visit-at t) visit.Post
 visit-proof-hash-requires t c κs = search needs
 
-visit-add-t32 : (t : ℕ) → visit-lts.Need-add-t32 (visit-claims t) (visit-at t) visit.Post
-visit-add-t32 t c = let o = c .before .before .before .before .before .before .before .before .before in omega (arith, o .pre .1 .1, bound-most (o .pre .1 .0))
+visit-add-t31 : (t : ℕ) → visit-lts.Need-add-t31 (visit-claims t) (visit-at t) visit.Post
+visit-add-t31 t c = let o = c .before .before .before .before .before .before .before .before .before in omega (arith, o .pre .1 .1, bound-most (o .pre .1 .0))
 
 visit-returns-2 : (t : ℕ) → visit-lts.Need-returns-2 (visit-claims t) (visit-at t) visit.Post
 visit-returns-2 t c =
@@ -157,10 +156,10 @@ visit-returns-2 t c =
     let l = c .before .before .if1 .left in
     by-leaf (a .p) (a .depth) _ _ (a .places .now) l
     (visited-pass T (a .search .0) (a .h) (a .id) (take (a .depth) (a .path)) (a .depth) (a .steps) (visit-path t o) (o .pre .1 .1 .2) (omega (arith, o .pre .1 .1))
-    (yes-is (o .pre .1 .0) (a .h) ∙ sym (c .before .proof-hash .ensures) ∙ c .if2 .taken))
+    (sym (c .before .proof-hash .ensures) ∙ c .if2 .taken))
 
-visit-add-t33 : (t : ℕ) → visit-lts.Need-add-t33 (visit-claims t) (visit-at t) visit.Post
-visit-add-t33 t c = let o = c .before .before .before .before .before .before .before .before .before in omega (arith, o .pre .1 .1, bound-most (o .pre .1 .0))
+visit-add-t32 : (t : ℕ) → visit-lts.Need-add-t32 (visit-claims t) (visit-at t) visit.Post
+visit-add-t32 t c = let o = c .before .before .before .before .before .before .before .before .before in omega (arith, o .pre .1 .1, bound-most (o .pre .1 .0))
 
 visit-returns-3 : (t : ℕ) → visit-lts.Need-returns-3 (visit-claims t) (visit-at t) visit.Post
 visit-returns-3 t c =
@@ -170,16 +169,16 @@ visit-returns-3 t c =
     let l = c .before .before .if1 .left in
     by-leaf (a .p) (a .depth) _ _ (a .places .now) l
     (visited-fail T (a .search .0) (a .h) (a .id) (take (a .depth) (a .path)) (a .depth) (a .steps) (visit-path t o) (o .pre .1 .1 .2) (omega (arith, o .pre .1 .1))
-    (yes-is (o .pre .1 .0) (a .h) ∙ sym (c .before .proof-hash .ensures) ∙ c .if2 .left))
+    (sym (c .before .proof-hash .ensures) ∙ c .if2 .left))
 
 abbrev walk-Inv-loop : walk-lts.InvT-loop
-walk-Inv-loop p x retry search «data» ends marks indexes table h depth from to steps places₀ size count₀ i₀ next₀ places count i next =
+walk-Inv-loop p retry search «data» ends marks indexes table h depth from to steps places₀ size count₀ i₀ next₀ places count i next =
     let T : Try = tryOn p «data» ends marks indexes (retry .0) in
     (from ≤ i) × (i ≤ to) × (count ≤ p .«dfs_bound») × (length next ≡ 1024) × (take depth next ≡ take depth next₀) × (places ≡ places₀)
     × (walked T (search .0) h (take depth next₀) depth (slice from to table) steps ≡ walked T (search .0) h (take depth next₀) depth (slice i to table) count)
 
 abbrev walk-μ-loop : walk-lts.MeasureT-loop
-walk-μ-loop p x retry search «data» ends marks indexes table h depth from to steps places₀ size count₀ i₀ next₀ places count i next = to - i
+walk-μ-loop p retry search «data» ends marks indexes table h depth from to steps places₀ size count₀ i₀ next₀ places count i next = to - i
 
 -- where the id of the next round is drawn; from there, where the call began and where the turn began
 abbrev walk-Drawn : ℕ → Type 0
@@ -196,7 +195,7 @@ walk-turning : (t : ℕ) (s : walk-Drawn t)
     → (let a = walk-entry t s .args in
     let v = walk-turn t s .loop in
     let ps = take (a .depth) (a .path) in
-    Turning (a .p) (valueOf (a .x)) (a .«data» .now) (a .ends .now) (a .marks .now) (a .indexes .now) (a .retry .0) (a .table .now) (length (a .places .now))
+    Turning (a .p) (a .«data» .now) (a .ends .now) (a .marks .now) (a .indexes .now) (a .retry .0) (a .table .now) (length (a .places .now))
     (a .search .0) (a .h) ps (a .depth) (a .from) (a .to) (v .i) (v .count)
     (walked (tryOn (a .p) (a .«data» .now) (a .ends .now) (a .marks .now) (a .indexes .now) (a .retry .0)) (a .search .0) (a .h) ps (a .depth) (slice (a .from) (a .to) (a .table .now)) (a .steps))
     (s .before .before .wide .result) (s .before .next-hash .result) (s .round-id .result) (v .next) (v .places) (a .places .now))
@@ -221,11 +220,11 @@ walk-turning t s =
 
 -- a visit leaves as many places as were lent
 walk-as-many : (t : ℕ) (s : walk-lts.After-visit (walk-claims t) (walk-at t) walk.Post walk-Inv-loop walk-μ-loop)
-    → length (s .visit .last .1 .1 .1 .1 .1 .1 .1 .1 .1 .1 .1 .1 .1 .1 .0)
+    → length (s .visit .last .1 .1 .1 .1 .1 .1 .1 .1 .1 .1 .1 .1 .1 .0)
     ≡ length (s .before .before .before .before .before .before .before .before .before .before .before .before .before .before .before .before .before .before .before .args .places .now)
 walk-as-many t s =
     let turn = s .before .before .before .before .before .before .before .before .before .before .before .before in
-    s .visit .kept .1 .1 .1 .1 .1 .1 .1 .1 .1 .1 .1 .1 .1 .1 .0
+    s .visit .kept .1 .1 .1 .1 .1 .1 .1 .1 .1 .1 .1 .1 .1 .0
     ∙ ap length (turn .loop .inv .5)
 
 walk-loop-holds : (t : ℕ) → walk-lts.Need-loop-holds (walk-claims t) (walk-at t) walk.Post walk-Inv-loop walk-μ-loop
@@ -293,7 +292,7 @@ walk-visit-requires t c κs =
       subst (λ (j : ℕ). left (a .p .«proof_size» - (a .depth + 1)) (length (a .table .now)) (length (a .table .now) + 1) < j) (o .pre .0)
           (to-visit (a .p .«proof_size») (a .depth) (length (a .table .now)) (a .to - a .from) (o .pre .1 .1 .1 .0)),
       (
-        subst (λ (l : List ℕ). Ready (a .p) (valueOf (a .x)) (a .«data» .now) (a .ends .now) (a .marks .now) (a .indexes .now) (a .retry .0) (a .table .now) (length l)) (sym (v .inv .5)) (o .pre .1 .0),
+        subst (λ (l : List ℕ). Ready (a .p) (a .«data» .now) (a .ends .now) (a .marks .now) (a .indexes .now) (a .retry .0) (a .table .now) (length l)) (sym (v .inv .5)) (o .pre .1 .0),
         (
           id-below T _ _ (sym (c .before .before .before .before .round-id .ensures) ∙ ap idOption (c .before .before .drawn .given .1)),
           omega (arith, o .pre .1 .1 .1 .0),
@@ -421,9 +420,9 @@ pub +visit+walk-spec : {M : Type 1} → statement M
     (visit-same-length t)
     (visit-returns t)
     (visit-proof-hash-requires t)
-    (visit-add-t32 t)
+    (visit-add-t31 t)
     (visit-returns-2 t)
-    (visit-add-t33 t)
+    (visit-add-t32 t)
     (visit-returns-3 t))
     λ t. walk-lts.spec (walk-claims t)
     (walk-at t)

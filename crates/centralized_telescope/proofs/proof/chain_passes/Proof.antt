@@ -7,22 +7,20 @@ use Prim.Native.Nat.{ℕ, _-_, _≤_, _<_}
 use native.Mathlib.Omega.{arith}
 use borrow.Author.Needs.{needs}
 use lib.ListN.{length, drop}
-use Rattle.sampling.specs.Sample.{valueOf}
 use Rattle.centralized_telescope.specs.Elements.{Element, elements}
 use Rattle.centralized_telescope.specs.laws.ElementsLaws.{length-elements}
-use Rattle.centralized_telescope.specs.laws.RoundsLaws.{yes-below}
 use Rattle.centralized_telescope.specs.Verifier.{follow, lastHash, yesOn}
 use Rattle.centralized_telescope.proofs.ChainFollowed.{nowhere, somewhere, no-start, from-start, chain-ends, no-bin, other-bin, no-round, next-round}
 use Rattle.centralized_telescope.proofs.proof.chain_passes.Statement.{statement}
 use Rattle.centralized_telescope.proofs.proof.chain_passes.Tie as tie
 
 abbrev Inv-loop : tie.InvT-loop
-Inv-loop p x retry «data» ends marks indexes h₀ first id₀ followed₀ h id followed =
+Inv-loop p retry «data» ends marks indexes h₀ first id₀ followed₀ h id followed =
     (followed ≤ length ends)
     × (follow p (retry .0) h₀ first (elements «data» ends marks indexes) ≡ follow p (retry .0) h id (drop followed (elements «data» ends marks indexes)))
 
 abbrev μ-loop : tie.MeasureT-loop
-μ-loop p x retry «data» ends marks indexes h₀ first id₀ followed₀ h id followed = length ends - followed
+μ-loop p retry «data» ends marks indexes h₀ first id₀ followed₀ h id followed = length ends - followed
 
 -- the arguments, the requirements and the elements, seen from where the loop begins
 abbrev At : Type 0
@@ -49,13 +47,13 @@ reached l =
     ∙ l .loop .inv .1
 
 -- no last hash, no yes
-refused : (l : At) → last l ≡ none → false ≡ yesOn (entry l .args .p .q) (last l)
+refused : (l : At) → last l ≡ none → false ≡ yesOn (entry l .args .p .x) (last l)
 refused l e = rw e
 
 within : (l : At) → l .loop .followed < length (entry l .args .ends .now) → l .loop .followed < length (list l)
 within l h =
     let a = entry l .args in
-    omega (arith, length-elements (a .«data» .now) (a .ends .now) (a .marks .now) (a .indexes .now) (entry l .pre .1))
+    omega (arith, length-elements (a .«data» .now) (a .ends .now) (a .marks .now) (a .indexes .now) (entry l .pre))
 
 start-hash-requires : tie.Need-start-hash-requires Inv-loop μ-loop
 start-hash-requires c κs = search needs
@@ -73,13 +71,13 @@ returns : tie.Need-returns Inv-loop μ-loop
 returns c =
     let start = c .before .before in
     let a = start .before .before .before .before .before .before .args in
-    ap (yesOn (a .p .q)) (sym (no-start (a .p) (a .retry .0) _ (a .search .0) _ (start .before .start-hash .ensures) (nowhere _ _ (start .round-id .ensures) (c .enum-told .given .1))))
+    ap (yesOn (a .p .x)) (sym (no-start (a .p) (a .retry .0) _ (a .search .0) _ (start .before .start-hash .ensures) (nowhere _ _ (start .round-id .ensures) (c .enum-told .given .1))))
 
 loop-holds : tie.Need-loop-holds Inv-loop μ-loop
 loop-holds c = (search needs, refl)
 
 bin-hash-requires : tie.Need-bin-hash-requires Inv-loop μ-loop
-bin-hash-requires c κs = (entry (c .before) .pre .1, c .loop-test .taken)
+bin-hash-requires c κs = (entry (c .before) .pre, c .loop-test .taken)
 
 enum-known-drawn : tie.Need-enum-known-drawn Inv-loop μ-loop
 enum-known-drawn c = search needs
@@ -106,7 +104,7 @@ returns-3 c =
 next-hash-requires : tie.Need-next-hash-requires Inv-loop μ-loop
 next-hash-requires c κs =
     let there = c .before .before .before .before .before .before in
-    (entry there .pre .1, c .before .before .before .before .before .loop-test .taken)
+    (entry there .pre, c .before .before .before .before .before .loop-test .taken)
 
 round-id-requires-2 : tie.Need-round-id-requires-2 Inv-loop μ-loop
 round-id-requires-2 c κs = search needs
@@ -135,7 +133,7 @@ add-followed : tie.Need-add-followed Inv-loop μ-loop
 add-followed c =
     let test = c .before .before .before .before .before .before .before .before .before .before in
     let there = test .before in
-    omega (arith, test .loop-test .taken, entry there .good .1 .1 .1 .1 .1 .0 .0)
+    omega (arith, test .loop-test .taken, entry there .good .1 .1 .1 .1 .0 .0)
 
 loop-less : tie.Need-loop-less Inv-loop μ-loop
 loop-less c =
@@ -164,8 +162,8 @@ returns-5 : tie.Need-returns-5 Inv-loop μ-loop
 returns-5 c =
     let l = c .before .before in
     let a = entry l .args in
-    let e : last l ≡ some (l .loop .h) = reached l ∙ chain-ends (a .p) (a .retry .0) (list l) (l .loop .h) (l .loop .id) (l .loop .followed) (omega (arith, c .before .loop-test .left, length-elements (a .«data» .now) (a .ends .now) (a .marks .now) (a .indexes .now) (entry l .pre .1))) in
-    c .proof-hash .ensures ∙ sym (yes-below (a .p .q) (valueOf (a .x)) (l .loop .h) (entry l .pre .0)) ∙ ap (yesOn (a .p .q)) (sym e)
+    let e : last l ≡ some (l .loop .h) = reached l ∙ chain-ends (a .p) (a .retry .0) (list l) (l .loop .h) (l .loop .id) (l .loop .followed) (omega (arith, c .before .loop-test .left, length-elements (a .«data» .now) (a .ends .now) (a .marks .now) (a .indexes .now) (entry l .pre))) in
+    c .proof-hash .ensures ∙ ap (yesOn (a .p .x)) (sym e)
 
 pub chain-passes-spec : {M : Type 1} → statement M
 chain-passes-spec =

@@ -16,7 +16,7 @@ abbrev list : tie.Start → List Element
 list s = elements (s .args .«data» .now) (s .args .ends .now) (s .args .marks .now) (s .args .indexes .now)
 
 same-length : (s : tie.Start) → length (list s) ≡ length (s .args .ends .now)
-same-length s = length-elements (s .args .«data» .now) (s .args .ends .now) (s .args .marks .now) (s .args .indexes .now) (s .pre .1)
+same-length s = length-elements (s .args .«data» .now) (s .args .ends .now) (s .args .marks .now) (s .args .indexes .now) (s .pre)
 
 returns : tie.Need-returns
 returns c =

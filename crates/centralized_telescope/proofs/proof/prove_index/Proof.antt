@@ -7,7 +7,6 @@ use native.Mathlib.Nat.{sub-zero}
 use native.Mathlib.Omega.{arith}
 use borrow.Author.Needs.{needs}
 use lib.ListN.{length}
-use Rattle.sampling.specs.Sample.{valueOf}
 use Rattle.centralized_telescope.specs.Chains.{Try}
 use Rattle.centralized_telescope.specs.inner.RoundAnswers.{idOption}
 use Rattle.centralized_telescope.specs.laws.TryLaws.{id-below}
@@ -18,12 +17,12 @@ use Rattle.centralized_telescope.proofs.proof.prove_index.Statement.{st
 use Rattle.centralized_telescope.proofs.proof.prove_index.Tie as tie
 
 abbrev Inv-loop : tie.InvT-loop
-Inv-loop p x retry «data» ends marks indexes table places₀ count₀ s₀ places count s =
+Inv-loop p retry «data» ends marks indexes table places₀ count₀ s₀ places count s =
     let T : Try = tryOn p «data» ends marks indexes (retry .0) in
     (s ≤ p .«search_width») × (count ≤ p .«dfs_bound») × (places ≡ places₀) × (tried T (p .«search_width») 0 0 ≡ tried T (p .«search_width» - s) s count)
 
 abbrev μ-loop : tie.MeasureT-loop
-μ-loop p x retry «data» ends marks indexes table places₀ count₀ s₀ places count s = p .«search_width» - s
+μ-loop p retry «data» ends marks indexes table places₀ count₀ s₀ places count s = p .«search_width» - s
 
 -- where the id of the start round is drawn; from there, where the call began, where the turn began, and the try
 abbrev Drawn : Type 0
@@ -88,7 +87,7 @@ visit-requires c κs =
     let a = o .args in
     let v = c .before .before .before .before .before .before .before .before .before .before .loop in (
       subst
-          (λ (l : List ℕ). Ready (a .p) (valueOf (a .x)) (a .«data» .now) (a .ends .now) (a .marks .now) (a .indexes .now) (a .retry .0) (a .table .now) (length l))
+          (λ (l : List ℕ). Ready (a .p) (a .«data» .now) (a .ends .now) (a .marks .now) (a .indexes .now) (a .retry .0) (a .table .now) (length l))
           (sym (v .inv .2)) (o .pre),
       (
         id-below (tryOn (a .p) (a .«data» .now) (a .ends .now) (a .marks .now) (a .indexes .now) (a .retry .0)) _ _
@@ -104,7 +103,7 @@ enum-known-outcome c = search needs
 same-length-2 : tie.Need-same-length-2 Inv-loop μ-loop
 same-length-2 c =
     let turn = c .before .before .before .before .before .before .before .before .before .before .before .before .before .before .before .before in
-    c .before .before .before .before .before .visit .kept .1 .1 .1 .1 .1 .1 .1 .1 .1 .1 .1 .1 .1 .1 .0
+    c .before .before .before .before .before .visit .kept .1 .1 .1 .1 .1 .1 .1 .1 .1 .1 .1 .1 .1 .0
     ∙ ap length (turn .loop .inv .2)
 
 returns-2 : tie.Need-returns-2 Inv-loop μ-loop

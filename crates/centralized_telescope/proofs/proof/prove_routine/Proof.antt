@@ -6,7 +6,6 @@ use native.Mathlib.Nat.{sub-zero}
 use native.Mathlib.Omega.{arith}
 use borrow.Author.Needs.{needs}
 use lib.ListN.{length}
-use Rattle.sampling.specs.Sample.{valueOf}
 use Rattle.centralized_telescope.specs.laws.ParamsLaws.{lawful}
 use Rattle.centralized_telescope.specs.Elements.{Element, elements}
 use Rattle.centralized_telescope.specs.Search.{triesFrom, searched}
@@ -16,13 +15,13 @@ use Rattle.centralized_telescope.proofs.proof.prove_routine.Statement.{
 use Rattle.centralized_telescope.proofs.proof.prove_routine.Tie as tie
 
 abbrev Inv-loop : tie.InvT-loop
-Inv-loop p x «data» ends marks indexes places₀ table₀ steps₀ r₀ places table steps r =
+Inv-loop p «data» ends marks indexes places₀ table₀ steps₀ r₀ places table steps r =
     let es : List Element = elements «data» ends marks indexes in
     (r ≤ p .«max_retries») × (steps ≤ r * 2 ^ 48) × (length table ≡ length table₀) × (table ≡ tableAfter p es r table₀) × (places ≡ places₀)
     × (searched p es ≡ triesFrom p es (p .«max_retries» - r) r steps)
 
 abbrev μ-loop : tie.MeasureT-loop
-μ-loop p x «data» ends marks indexes places₀ table₀ steps₀ r₀ places table steps r = p .«max_retries» - r
+μ-loop p «data» ends marks indexes places₀ table₀ steps₀ r₀ places table steps r = p .«max_retries» - r
 
 loop-holds : tie.Need-loop-holds Inv-loop μ-loop
 unfolding tableAfter searched
@@ -49,7 +48,7 @@ list s =
 attempted : (s : Made)
     → (let a = entry s .args in
     let v = turn s .loop in
-    Attempted (a .p) (list s) (a .p .«max_retries» - (v .r + 1)) (v .r) (v .steps) (s .prove-index .result) (s .prove-index .last .1 .1 .1 .1 .1 .1 .1 .1 .0) (v .places) (a .places .now))
+    Attempted (a .p) (list s) (a .p .«max_retries» - (v .r + 1)) (v .r) (v .steps) (s .prove-index .result) (s .prove-index .last .1 .1 .1 .1 .1 .1 .1 .0) (v .places) (a .places .now))
 attempted s =
     let at-if1 = s .before .before .before .before .before .before .before in
     let m = entry s .args .p .«max_retries» in
@@ -77,7 +76,7 @@ sum-fits s t l =
     let at-if1 = s .before .before .before .before .before .before .before in
     let o = entry s in
     let v = turn s .loop in
-    let law = lawful (o .args .p) (valueOf (o .args .x)) (o .pre .0) in
+    let law = lawful (o .args .p) (o .pre .0) in
     omega (arith, law .limits .max-retries, law .limits .dfs-bound, v .inv .1, at-if1 .if1 .taken)
 
 add-r : tie.Need-add-r Inv-loop μ-loop
@@ -88,7 +87,7 @@ fill-table-requires c κs =
     let o = c .before .before .before .before .before .before .before .before .before .before in
     let a = o .args in
     let v = c .before .before .before .loop in
-    let law = lawful (a .p) (valueOf (a .x)) (o .pre .0) in
+    let law = lawful (a .p) (o .pre .0) in
     (o .pre .1, law .set-size .1, omega (arith, o .pre .3, v .inv .2))
 
 prove-index-requires : tie.Need-prove-index-requires Inv-loop μ-loop
@@ -96,21 +95,21 @@ prove-index-requires c κs =
     let o = c .before .before .before .before .before .before .before .before .before .before .before .before .before .before .before in
     let a = o .args in
     let v = c .before .before .before .before .before .before .before .before .loop in
-    filled-ready (a .p) (valueOf (a .x)) _ _ _ _ (v .r + 1) _ _ (length (v .places)) (o .pre .0) (o .pre .1) (c .before .before .before .before .fill-table .ensures)
+    filled-ready (a .p) _ _ _ _ (v .r + 1) _ _ (length (v .places)) (o .pre .0) (o .pre .1) (c .before .before .before .before .fill-table .ensures)
     (omega (arith, o .pre .2, ap length (v .inv .4)))
 
 enum-known-one : tie.Need-enum-known-one Inv-loop μ-loop
 enum-known-one c = search needs
 
-add-t25 : tie.Need-add-t25 Inv-loop μ-loop
-add-t25 c =
+add-t24 : tie.Need-add-t24 Inv-loop μ-loop
+add-t24 c =
     let s = c .before .before .before .before .before in
     omega (arith, sum-fits s _ (found-within (attempted s) _ _ (c .before .one .given .1)))
 
 same-length : tie.Need-same-length Inv-loop μ-loop
 same-length c =
     let turn = c .before .before .before .before .before .before .before .before .before .before .before .before .before .before in
-    c .before .before .before .before .before .prove-index .kept .1 .1 .1 .1 .1 .1 .1 .1 .0
+    c .before .before .before .before .before .prove-index .kept .1 .1 .1 .1 .1 .1 .1 .0
     ∙ ap length (turn .loop .inv .4)
 
 same-length-2 : tie.Need-same-length-2 Inv-loop μ-loop
@@ -140,7 +139,7 @@ loop-again c =
     let at-if1 = s .before .before .before .before .before .before .before in
     let o = entry s in
     let v = turn s .loop in
-    let law = lawful (o .args .p) (valueOf (o .args .x)) (o .pre .0) in
+    let law = lawful (o .args .p) (o .pre .0) in
     let q = all-missing (attempted s) _ (c .before .one2 .given .1) in (
       omega (arith, at-if1 .if1 .taken),
       omega (arith, q .2, law .limits .dfs-bound, v .inv .1),
@@ -191,7 +190,7 @@ prove-routine-spec =
     fill-table-requires
     prove-index-requires
     enum-known-one
-    add-t25
+    add-t24
     same-length
     same-length-2
     returns

@@ -23,14 +23,14 @@ digest-requires c κs = search needs
 first-half-requires : tie.Need-first-half-requires
 first-half-requires c κs = search needs
 
-below-threshold-requires : tie.Need-below-threshold-requires
-below-threshold-requires c κs = search needs
+sample-bernoulli-requires : tie.Need-sample-bernoulli-requires
+sample-bernoulli-requires c κs = search needs
 
 returns : tie.Need-returns
 unfolding proofLabel
 returns c =
     let o = c .before .before .before .before .before .before .before in
-    yes-is (o .args .t1) _ _ _ _ (c .before .before .digest .ensures) (c .before .first-half .ensures) (c .below-threshold .ensures)
+    yes-is (o .args .t1) _ _ _ _ (c .before .before .digest .ensures) (c .before .first-half .ensures) (c .sample-bernoulli .ensures)
 
 pub proof-hash-spec : {M : Type 1} → statement M
 proof-hash-spec =
@@ -42,5 +42,5 @@ proof-hash-spec =
     slice-aggregate-digest-4
     digest-requires
     first-half-requires
-    below-threshold-requires
+    sample-bernoulli-requires
     returns)

@@ -1,10 +1,8 @@
 -- `verify`: the settings, the list, then the judgement.
 use mathlib.Core.Path.{_≡_, sym, ap, _∙_}
-use Rattle.sampling.specs.Sample.{valueOf}
 use Rattle.centralized_telescope.specs.Elements.{listCheck, listNumber}
 use Rattle.centralized_telescope.specs.Params.{checked, checkedNumber}
-use Rattle.centralized_telescope.specs.laws.ParamsLaws.{number-alone}
-use Rattle.centralized_telescope.proofs.VerdictAnswers.{threshold-passed, settings-refused, list-refused, left-to-judge}
+use Rattle.centralized_telescope.proofs.VerdictAnswers.{settings-refused, list-refused, left-to-judge}
 use borrow.Author.Needs.{needs}
 use Rattle.centralized_telescope.proofs.telescope.verify.Statement.{statement}
 use Rattle.centralized_telescope.proofs.telescope.verify.Tie as tie
@@ -13,19 +11,19 @@ use Rattle.centralized_telescope.proofs.telescope.verify.Tie as tie
 abbrev entry : tie.After-check-params → tie.Start
 entry s = s .before .before .before .before .before
 
--- the settings pass, with X
-lawful-settings : (s : tie.After-x) → checked (entry (s .before .before) .args .p) ≡ (0, valueOf (s .x .given .0 .0))
-lawful-settings s = sym (s .before .before .check-params .ensures) ∙ ap checkedNumber (s .x .given .1)
+-- the settings pass
+lawful-settings : (s : tie.After-enum-told) → checked (entry (s .before .before) .args .p) ≡ 0
+lawful-settings s = sym (s .before .before .check-params .ensures) ∙ ap checkedNumber (s .enum-told .given .1)
 
 -- the list is accepted
-accepted : (s : tie.After-enum-told) → (let a = entry (s .before .before .before .before .before .before) .args in listCheck (a .«data» .now) (a .ends .now) (a .marks .now) (a .indexes .now) ≡ 0)
-accepted s = sym (s .before .before .check-list .ensures) ∙ ap listNumber (s .enum-told .given .1)
+accepted : (s : tie.After-enum-told2) → (let a = entry (s .before .before .before .before .before) .args in listCheck (a .«data» .now) (a .ends .now) (a .marks .now) (a .indexes .now) ≡ 0)
+accepted s = sym (s .before .before .check-list .ensures) ∙ ap listNumber (s .enum-told2 .given .1)
 
 check-params-requires : tie.Need-check-params-requires
 check-params-requires c κs = search needs
 
-enum-known-x : tie.Need-enum-known-x
-enum-known-x c = search needs
+enum-told : tie.Need-enum-told
+enum-told c = search needs
 
 enum-known-k : tie.Need-enum-known-k
 enum-known-k c = search needs
@@ -39,8 +37,8 @@ returns c =
 check-list-requires : tie.Need-check-list-requires
 check-list-requires c κs = search needs
 
-enum-told : tie.Need-enum-told
-enum-told c = search needs
+enum-told-2 : tie.Need-enum-told-2
+enum-told-2 c = search needs
 
 enum-known-k-2 : tie.Need-enum-known-k-2
 enum-known-k-2 c = search needs
@@ -48,30 +46,30 @@ enum-known-k-2 c = search needs
 returns-2 : tie.Need-returns-2
 returns-2 c =
     let s = c .before in
-    let a = entry (s .before .before .before .before .before .before) .args in
-    list-refused (a .p) (a .retry-counter .0) (a .search-counter .0) (a .«data» .now) (a .ends .now) (a .marks .now) (a .indexes .now) (number-alone (lawful-settings (s .before .before .before .before)))
+    let a = entry (s .before .before .before .before .before) .args in
+    list-refused (a .p) (a .retry-counter .0) (a .search-counter .0) (a .«data» .now) (a .ends .now) (a .marks .now) (a .indexes .now) (lawful-settings (s .before .before .before))
     (s .k2 .given .0 .0) (sym (s .before .before .check-list .ensures) ∙ ap listNumber (s .k2 .given .1))
 
 judge-requires : tie.Need-judge-requires
 judge-requires c κs =
-    let s = c .before .before .before .before in (threshold-passed (entry (s .before .before) .args .p) (valueOf (s .x .given .0 .0)) (lawful-settings s), accepted c)
+    accepted c
 
 returns-3 : tie.Need-returns-3
 returns-3 c =
     let s = c .before in
-    let a = entry (s .before .before .before .before .before .before) .args in
-    c .judge .ensures ∙ left-to-judge (a .p) (a .retry-counter .0) (a .search-counter .0) (a .«data» .now) (a .ends .now) (a .marks .now) (a .indexes .now) (number-alone (lawful-settings (s .before .before .before .before))) (accepted s)
+    let a = entry (s .before .before .before .before .before) .args in
+    c .judge .ensures ∙ left-to-judge (a .p) (a .retry-counter .0) (a .search-counter .0) (a .«data» .now) (a .ends .now) (a .marks .now) (a .indexes .now) (lawful-settings (s .before .before .before)) (accepted s)
 
 pub verify-spec : {M : Type 1} → statement M
 verify-spec =
     tie.close
     (tie.spec
     check-params-requires
-    enum-known-x
+    enum-told
     enum-known-k
     returns
     check-list-requires
-    enum-told
+    enum-told-2
     enum-known-k-2
     returns-2
     judge-requires
