@@ -8,7 +8,7 @@
  * data in hexadecimal (`-` if it has none) and, if the element has an index, a space and the index.
  *
  * A drive has its settings built in and never takes them from whoever brings the proof. So does this loader, compiled with
- * -DALBA_SETTINGS='"FILE"': FILE is a header such as sample_settings.h, which `prove_and_verify header` prints. Compiled without one,
+ * -DALBA_SETTINGS='"FILE"': FILE is a header such as sample_settings.h, which the program `plan` prints. Compiled without one,
  * it takes them as arguments, X as 32 hexadecimal digits, so that the example can be tried with several.
  *
  * It ends with status 0 for green, 1 for dark by the verifier's number, and 2 for dark because there was nothing to ask about: a file that

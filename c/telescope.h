@@ -7,9 +7,9 @@
  * that follows it, for reads (const) or for writes; with length 0 it may be null. What is lent for writing must not overlap what is
  * lent for reading. Nothing is kept after a call, nothing is allocated, and the functions may run on several threads at once.
  *
- * A loader has its settings as whole numbers, in a header of its own: `prove_and_verify header SET_SIZE U C` prints one. X, a number of 128
- * bits, stands there, and in every call that takes or gives it, as two words of 64 bits, the high one first. Only who starts from a
- * probability q, a host that makes such a header, has a double: alba_threshold makes X of it.
+ * A loader has its settings as whole numbers, in a header of its own, such as the program plan prints: `plan case SET_SIZE U C LONGEST`.
+ * X, a number of 128 bits, stands there, and in every call that takes or gives it, as two words of 64 bits, the high one first. Only who
+ * starts from a probability q, a host that makes such a header, has a double: alba_threshold makes X of it.
  *
  * What ALBA_ACCEPTED, green, means: the chain of the proof's elements exists and passes under the settings, which must be the loader's
  * own. So much is proved. By the telescope's theorem, which takes SHA-256 for a random function and isn't proved here, it shows that more

@@ -41,6 +41,10 @@ extern "C" {
         ticket: *const u8, ticket_len: usize, data: *mut u8, data_len: usize, ends: *mut u32, ends_len: usize,
         marks: *mut u8, marks_len: usize, indexes: *mut u64, indexes_len: usize, out: *mut u64, out_len: usize,
     ) -> u32;
+    fn alba_plan(
+        set_size: u64, proof_size: u64, max_retries: u64, search_width: u64, dfs_bound: u64, x_high: u64, x_low: u64, longest: u64,
+        out: *mut u64, out_len: usize,
+    ) -> u32;
 }
 
 /// set_size is out of range.
@@ -263,4 +267,13 @@ pub fn read_ticket(
             ticket, ticket_len, data, data_len, ends, ends_len, marks, marks_len, indexes, indexes_len, out, out_len,
         )
     }
+}
+
+/// 0, or the number of the refusal. If `out` has four numbers or more, the first four take the places, the numbers of the bin table, the
+/// steps and the ticket's blocks (zeros with a refusal).
+pub fn plan(s: &Settings, longest: u64, out: &mut (impl Place<u64> + ?Sized)) -> u32 {
+    let ((out, out_len), [x_high, x_low]) = (out.parts(), threshold::halves(s.x.x()));
+    let Settings { set_size, proof_size, max_retries, search_width, dfs_bound, .. } = *s;
+    // SAFETY: the pointer is valid for reads and writes of its length.
+    unsafe { alba_plan(set_size, proof_size, max_retries, search_width, dfs_bound, x_high, x_low, longest, out, out_len) }
 }

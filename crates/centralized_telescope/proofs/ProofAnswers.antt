@@ -54,7 +54,7 @@ module _ (ps d n m x b e k i : List ℕ) where
         pub same-size : (t u : Bool) → t ≡ short (length (dataOf d n ps)) → t ≡ u → short (length (joined (chosen ps d n m x))) ≡ u
         same-size t u s h = ap (λ (l : List ℕ). short (length l)) (sym (data-joined d n m x A ps P)) ∙ sym s ∙ h
 
-        last-met : (u : Bool) → short (length (joined (chosen ps d n m x))) ≡ u → writeRefusal ps d n m x b e k i ≡ cond u 42 0
+        pub last-met : (u : Bool) → short (length (joined (chosen ps d n m x))) ≡ u → writeRefusal ps d n m x b e k i ≡ cond u 42 0
         unfolding writeRefusal
         last-met u s =
             two-passed (listCheck d n m x) (cond (ltb 65536 (length ps)) 5 0) _ A (rw (le-ltb 65536 (length ps) F))

@@ -1,10 +1,10 @@
 -- The prover's answer by the lines of the table, from the top.
-use mathlib.Core.Path.{_≡_, _∙_}
-use mathlib.Core.Bool.{true, false, cond}
+use mathlib.Core.Path.{_≡_, refl, _∙_}
+use mathlib.Core.Bool.{Bool, true, false, cond}
 use mathlib.Core.List.{List}
 use Prim.Native.Nat.{ℕ, _+_, _*_, _≤_, _<_}
-use borrow.Author.Tests.{eq-eqb, ne-eqb, lt-ltb, le-ltb}
-use lib.Dec.{ltb}
+use borrow.Author.Tests.{eq-eqb, ne-eqb, eqb-true, lt-ltb, le-ltb, ltb-false}
+use lib.Dec.{ltb, eqb}
 use lib.ListN.{length}
 use Rattle.centralized_telescope.specs.declared.errors.Refusal.{Refusal}
 use Rattle.centralized_telescope.specs.declared.errors.Refusal.the-variants as refusal
@@ -13,7 +13,8 @@ use Rattle.centralized_telescope.specs.Refusals.{refusalNumber}
 use Rattle.centralized_telescope.specs.laws.RefusalsLaws.{refusal-number}
 use Rattle.centralized_telescope.specs.Params.{checked}
 use Rattle.centralized_telescope.specs.Elements.{elements, listCheck}
-use Rattle.centralized_telescope.specs.laws.ListsLaws.{number-passed, number-met, second-met, two-passed, number-last}
+use Rattle.centralized_telescope.specs.laws.TestLaws.{neither, unsaid}
+use Rattle.centralized_telescope.specs.laws.ListsLaws.{number-passed, number-met, second-met, two-passed, number-last, number-none}
 use Rattle.centralized_telescope.specs.Prover.{Proved, refused, served, workspaceShort, proverRefusal, proved}
 use Rattle.centralized_telescope.specs.Demand3.{Served}
 
@@ -21,27 +22,30 @@ module _ (p : Params) (bytes ends marks indexes places table : List ℕ) where
   abbrev answer : Proved
   answer = proved p bytes ends marks indexes places table
 
-  refusal-is : (k : Refusal) → proverRefusal p bytes ends marks indexes places table ≡ refusalNumber k → answer ≡ refused (refusalNumber k) places table
+  refusal-is : (k : ℕ) → (k ≡ 0 → ⊥) → proverRefusal p bytes ends marks indexes places table ≡ k → answer ≡ refused k places table
   unfolding proved
-  refusal-is k e = rw (e, ne-eqb (refusalNumber k) 0 (refusal-number k))
+  refusal-is k n e = rw (e, ne-eqb k 0 n)
 
-  -- 1, 2, 3
+  -- 1, 2
   pub settings-refused : (k : Refusal) → checked p ≡ refusalNumber k → answer ≡ refused (refusalNumber k) places table
   unfolding proverRefusal
-  settings-refused k e = refusal-is k (number-met (checked p) _ (refusalNumber k) e (refusal-number k))
+  settings-refused k e = refusal-is (refusalNumber k) (refusal-number k) (number-met (checked p) _ (refusalNumber k) e (refusal-number k))
 
   module _ (s : checked p ≡ 0) where
     -- 4, 5
-    pub list-refused : (k : Refusal) → listCheck bytes ends marks indexes ≡ refusalNumber k → answer ≡ refused (refusalNumber k) places table
+    pub list-number : (k : ℕ) → (k ≡ 0 → ⊥) → listCheck bytes ends marks indexes ≡ k → answer ≡ refused k places table
     unfolding proverRefusal
-    list-refused k e = refusal-is k (second-met (checked p) (listCheck bytes ends marks indexes) _ (refusalNumber k) s e (refusal-number k))
+    list-number k n e = refusal-is k n (second-met (checked p) (listCheck bytes ends marks indexes) _ k s e n)
+
+    pub list-refused : (k : Refusal) → listCheck bytes ends marks indexes ≡ refusalNumber k → answer ≡ refused (refusalNumber k) places table
+    list-refused k e = list-number (refusalNumber k) (refusal-number k) e
 
     module _ (l : listCheck bytes ends marks indexes ≡ 0) where
       -- 6
       short : workspaceShort p places table ≡ true → answer ≡ refused 6 places table
       unfolding proverRefusal
       short t =
-          refusal-is refusal.WorkspaceShort
+          refusal-is 6 (refusal-number refusal.WorkspaceShort)
           (two-passed (checked p) (listCheck bytes ends marks indexes) _ s l
           ∙ number-met (cond (workspaceShort p places table) 6 0) _ 6 (rw t) (refusal-number refusal.WorkspaceShort))
 
@@ -65,7 +69,7 @@ module _ (p : Params) (bytes ends marks indexes places table : List ℕ) where
 
           -- 10
           pub few-refused : length ends < p .«set_size» → answer ≡ refused 10 places table
-          few-refused f = refusal-is refusal.NotEnoughElements (after-six ∙ rw (lt-ltb (length ends) (p .«set_size») f))
+          few-refused f = refusal-is 10 (refusal-number refusal.NotEnoughElements) (after-six ∙ rw (lt-ltb (length ends) (p .«set_size») f))
 
           pub all-served : p .«set_size» ≤ length ends → answer ≡ served p (elements bytes ends marks indexes) places table
           unfolding proved
@@ -76,3 +80,33 @@ pub served-so : (p : Params) (bytes ends marks indexes places table : List ℕ) 
     → proved p bytes ends marks indexes places table ≡ served p (elements bytes ends marks indexes) places table
 served-so p bytes ends marks indexes places table S =
     all-served p bytes ends marks indexes places table (S .settings) (S .list) (S .places-enough) (S .table-enough) (S .at-least)
+
+-- a run that ends with a proof is such a run
+module _ (p : Params) (bytes ends marks indexes places table : List ℕ) where
+  passed-all : proved p bytes ends marks indexes places table .number ≡ 0 → proverRefusal p bytes ends marks indexes places table ≡ 0
+  unfolding proved
+  passed-all = go (eqb refusal 0) refl
+    where
+      refusal : ℕ
+      refusal = proverRefusal p bytes ends marks indexes places table
+
+      go : (t : Bool) → eqb refusal 0 ≡ t → cond t (served p (elements bytes ends marks indexes) places table) (refused refusal places table) .number ≡ 0
+          → refusal ≡ 0
+      go true e h = eqb-true refusal 0 e
+      go false e h = h
+
+  pub found-served : proved p bytes ends marks indexes places table .number ≡ 0 → Served p bytes ends marks indexes places table
+  unfolding proverRefusal
+  found-served n =
+      let s = number-none _ _ (passed-all n) in
+      let l = number-none _ _ (s .1) in
+      let w = number-none _ _ (l .1) in
+      let f = number-none _ _ (w .1) in
+      let room = neither (ltb (length places) (p .«proof_size»)) (unsaid (workspaceShort p places table) 5 (w .0)) in
+      record {
+        settings = s .0;
+        list = l .0;
+        at-least = ltb-false (length ends) (p .«set_size») (unsaid (ltb (length ends) (p .«set_size»)) 9 (f .0));
+        places-enough = ltb-false (length places) (p .«proof_size») (room .0);
+        table-enough = ltb-false (length table) (3 * p .«set_size» + 1) (room .1);
+      }

@@ -1,13 +1,13 @@
 -- The answers of `write_ticket` and `read_ticket` by their tests, in their order.
-use mathlib.Core.Path.{_≡_, refl, sym, ap, _∙_}
+use mathlib.Core.Path.{_≡_, sym, ap, _∙_}
 use mathlib.Core.Bool.{Bool, true, false, cond}
-use mathlib.Core.List.{List, [], _∷_, _++_, append-assoc}
-use Prim.Native.Nat.{ℕ, _+_, _-_, _*_, _/_, _≤_, _<_}
+use mathlib.Core.List.{List, _++_, append-assoc}
+use Prim.Native.Nat.{ℕ, _+_, _-_, _*_, _≤_, _<_}
 use native.Mathlib.Omega.{arith}
 use borrow.Author.Tests.{ne-eqb, lt-ltb, le-ltb}
 use lib.Dec.{ltb}
 use borrow.Rule.Slice.PartMut.{midOf, putMid}
-use lib.ListN.{length, take, drop, replicate, length-drop}
+use lib.ListN.{length, drop, replicate, length-drop}
 use lib.Seq.{take-at, drop-at, drop-drop, drop-append-add, length-take-le}
 use Rattle.centralized_telescope.specs.declared.errors.Refusal.{Refusal}
 use Rattle.centralized_telescope.specs.declared.errors.Refusal.the-variants as refusal
@@ -45,7 +45,7 @@ module _ (R S : ℕ) (d n m x out : List ℕ) where
 
   -- the list is accepted, and the code has worked out how long the content is
   module _ (A : listCheck d n m x ≡ 0) (size : ℕ) (Z : size ≡ length body) where
-    room-met : (t : Bool) → ltb (length out) (512 * blockCount size) ≡ t → ticketWriteRefusal R S d n m x out ≡ cond t 42 0
+    pub room-met : (t : Bool) → ltb (length out) (512 * blockCount size) ≡ t → ticketWriteRefusal R S d n m x out ≡ cond t 42 0
     unfolding ticketWriteRefusal
     room-met t e = number-passed (listCheck d n m x) _ A ∙ rw (← Z, e) (number-last (cond t 42 0))
 

@@ -18,7 +18,7 @@ use Rattle.centralized_telescope.specs.inner.ListReading.{dataAt, indexA
 use Rattle.centralized_telescope.specs.laws.ElementsLaws.{data-there, index-there, length-elements, data-short}
 use Rattle.centralized_telescope.specs.laws.ListsLaws.{take-over}
 use Rattle.centralized_telescope.specs.laws.ProofListLaws.{index-again}
-use Rattle.centralized_telescope.specs.laws.TicketsLaws.{head-length}
+use Rattle.centralized_telescope.specs.laws.TicketsLaws.{length-element}
 use Rattle.centralized_telescope.proofs.ProofWriting.{over-append}
 
 -- ---- an element's head in an array
@@ -44,11 +44,6 @@ head-indexed mark v size r q z p k n e f =
     )
 
 -- ---- the bytes that elements take
-
-pub length-element : (e : Element) → length (elementBytes e) ≡ 5 + 8 * markOf (e .index) + length (e .bytes)
-unfolding elementBytes
-length-element e =
-    omega (arith, length-append (headBytes (e .index) (length (e .bytes))) (e .bytes), head-length (e .index) (length (e .bytes)))
 
 elements-append : (es fs : List Element) → elementsBytes (es ++ fs) ≡ elementsBytes es ++ elementsBytes fs
 unfolding elementsBytes
@@ -213,9 +208,6 @@ module _ (R S n : ℕ) (es : List Element) (N : length es ≡ n) where
   content-is : content R S es ≡ headOf R S n ++ elementsBytes es
   unfolding content
   content-is = rw (N, append-assoc (bytesOf 8 R) (bytesOf 8 S ++ bytesOf 4 n), append-assoc (bytesOf 8 S) (bytesOf 4 n))
-
-  pub length-content : length (content R S es) ≡ 20 + length (elementsBytes es)
-  length-content = ap length content-is ∙ length-append (headOf R S n) (elementsBytes es) ∙ rw (length-headOf R S n)
 
   -- the head, then the elements behind it
   pub content-put : (lent head out out′ : List ℕ) → head ≡ headOf R S n → out ≡ take 0 lent ++ (head ++ drop (0 + length head) lent)

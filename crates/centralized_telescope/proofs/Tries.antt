@@ -3,8 +3,8 @@ use mathlib.Core.Path.{_≡_, refl, ap, sym, _∙_}
 use mathlib.Core.Logic.{_⊎_, inl, inr}
 use mathlib.Core.List.{List}
 use mathlib.Core.Option.{Option, none, some}
-use Prim.Native.Nat.{ℕ, zero, suc, _+_, _≤_, _<_}
-use native.Mathlib.Nat.{eq-or-lt-of-le}
+use Prim.Native.Nat.{ℕ, zero, suc, _+_, _*_, _≤_, _<_}
+use native.Mathlib.Nat.{eq-or-lt-of-le, min-le-right}
 use native.Mathlib.Numerals.{add-one}
 use native.Mathlib.Omega.{arith}
 use Rattle.centralized_telescope.specs.declared.params.Params.{Params}
@@ -107,3 +107,23 @@ module _ (p : Params) (es : List Element) where
   pub search-counted : searched p es .count ≡ sumUpTo (searched p es .made) count
   unfolding searched sumUpTo
   search-counted = counted (p .«max_retries») 0 0 refl
+
+  -- ---- no try counts more than the step bound, so w tries count no more than w times as much
+
+  steps-more : (w R sum : ℕ) (later : Searched) → later .count ≤ sum + w → (d : Option Chain) → unlessFound d R sum later .count ≤ sum + w
+  unfolding unlessFound
+  steps-more w R sum later h (some c) = omega arith
+  steps-more w R sum later h none = h
+
+  steps : (w R sum : ℕ) → triesFrom p es w R sum .count ≤ sum + w * p .«dfs_bound»
+  unfolding triesFrom tryCount
+  steps zero R sum = omega arith
+  steps (suc w) R sum =
+      let next : ℕ = sum + count (R + 1) in
+      let most : count (R + 1) ≤ p .«dfs_bound» = min-le-right _ _ in
+      let one = steps-more (w * p .«dfs_bound») (R + 1) next (triesFrom p es w (R + 1) next) (steps w (R + 1) next) (finds (R + 1)) in
+      omega arith
+
+  pub search-steps : searched p es .count ≤ p .«max_retries» * p .«dfs_bound»
+  unfolding searched
+  search-steps = omega (arith, steps (p .«max_retries») 0 0)

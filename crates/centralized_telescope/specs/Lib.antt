@@ -17,6 +17,8 @@ pub mod Blocks
 pub mod Tickets
 pub mod TicketClaims
 pub mod Demand3
+pub mod Plan
+pub mod PlanClaims
 pub mod AllCases
 pub mod laws
 pub mod inner

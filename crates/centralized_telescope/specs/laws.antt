@@ -21,3 +21,4 @@ pub mod BlocksLaws
 pub mod BlocksReadLaws
 pub mod TicketsLaws
 pub mod TicketsReadLaws
+pub mod PlanLaws

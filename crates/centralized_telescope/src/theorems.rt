@@ -3,6 +3,7 @@
 ghost use Rattle.centralized_telescope.specs.AllCases.{AllCases};
 ghost use Rattle.centralized_telescope.specs.Demand3.{demand3, servedExample};
 ghost use Rattle.centralized_telescope.specs.Distinct.{distinctExactly};
+ghost use Rattle.centralized_telescope.specs.PlanClaims.{planSuffices, planNeeded, stepsNotPassed, ticketFits, tightExample};
 ghost use Rattle.centralized_telescope.specs.TicketClaims.{readsBack, writesBack, judgedAlike, ticketsExactly};
 
 // The claim on prove and verify at once, for every run that is served.
@@ -44,4 +45,29 @@ pub fn ticket_judged_alike()
 // and a buffer too short. No two proofs have one ticket.
 pub fn tickets_exactly()
     ensures { λ _. ⌜ ticketsExactly ⌝ }
+{}
+
+// With the planned amounts lent the prover never gives 6, for every list.
+pub fn plan_suffices()
+    ensures { λ _. ⌜ planSuffices ⌝ }
+{}
+
+// With fewer places or fewer bin-table numbers than planned it gives 6, for every accepted list.
+pub fn plan_needed()
+    ensures { λ _. ⌜ planNeeded ⌝ }
+{}
+
+// No run counts more steps than planned, whatever it is lent.
+pub fn steps_not_passed()
+    ensures { λ _. ⌜ stepsNotPassed ⌝ }
+{}
+
+// A proof found, written out as a list and then as a ticket, fits the planned blocks, where no element's data is longer than planned for.
+pub fn ticket_fits()
+    ensures { λ _. ⌜ ticketFits ⌝ }
+{}
+
+// Elements whose ticket takes all the blocks that are planned for.
+pub fn tight_example()
+    ensures { λ _. ⌜ tightExample ⌝ }
 {}

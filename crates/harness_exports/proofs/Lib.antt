@@ -2,3 +2,4 @@
 mod Answer
 mod ProverNumbers
 mod TicketNumbers
+mod PlanAnswers

@@ -8,15 +8,19 @@ use lib.ListN.{length, drop}
 use Rattle.sampling.specs.Hash.{hashed}
 use Rattle.centralized_telescope.specs.Distinct.{distinct}
 use Rattle.centralized_telescope.specs.Params.{smallCase}
+use Rattle.centralized_telescope.specs.Plan.{planned, plannedBy}
 use Rattle.centralized_telescope.specs.Prover.{Proved, proved, provedBy}
 use Rattle.centralized_telescope.specs.Tickets.{TicketWritten, ticketWritten, ticketWrittenBy, TicketRead, ticketRead, ticketReadBy}
 use Rattle.centralized_telescope.specs.declared.params.Params.{Params}
+use Rattle.centralized_telescope.specs.declared.planning.Amounts.{Amounts}
+use Rattle.centralized_telescope.specs.declared.planning.Planned.{Planned}
 use Rattle.centralized_telescope.specs.declared.proof.ProofSearch.{ProofSearch}
 use Rattle.centralized_telescope.specs.declared.ticket.TicketBlocks.{TicketBlocks}
 use Rattle.centralized_telescope.specs.declared.ticket.TicketProof.{TicketProof}
 use Rattle.harness_exports.specs.declared.Numbers.{Numbers}
 use Rattle.harness_exports.specs.declared.BlocksNumbers.{BlocksNumbers}
 use Rattle.harness_exports.specs.declared.ReadNumbers.{ReadNumbers}
+use Rattle.harness_exports.specs.declared.PlanNumbers.{PlanNumbers}
 use Rattle.centralized_telescope.specs.declared.params.SmallSettings.{SmallSettings}
 
 -- the hash of m: its number, and the lent bytes afterwards; 8 where they aren't 32
@@ -103,3 +107,20 @@ unfoldable pub exportedReadTicket : List ℕ → List ℕ → List ℕ → List 
 exportedReadTicket t bytes ends marks indexes out =
     let r : TicketRead = ticketRead t bytes ends marks indexes in
     (r .number, r .bytes, r .ends, r .marks, r .indexes, withRead (inReadNumbers r) out)
+
+-- ---- planning
+
+-- the number and the amounts of an answer
+abbrev pub inPlanNumbers : ℕ × Amounts → PlanNumbers
+inPlanNumbers r = record { number = r .0; amounts = r .1 }
+
+abbrev pub planNumbers : Planned → PlanNumbers
+planNumbers a = inPlanNumbers (plannedBy a)
+
+-- places, bin-table numbers, steps and blocks in the first four lent numbers, where there are as many
+unfoldable pub withAmounts : Amounts → List ℕ → List ℕ
+withAmounts a out = cond (leb 4 (length out)) (a .places ∷ a .«bin_table» ∷ a .«most_steps» ∷ a .«ticket_blocks» ∷ drop 4 out) out
+
+-- the number, and the lent numbers afterwards
+unfoldable pub exportedPlan : Params → ℕ → List ℕ → ℕ × List ℕ
+exportedPlan p longest out = (planned p longest .0, withAmounts (planned p longest .1) out)

@@ -3,9 +3,11 @@ ghost use mathlib.Core.Path.{_≡_};
 ghost use mathlib.Core.List.{_++_};
 ghost use lib.ListN.{length};
 ghost use Rattle.centralized_telescope.specs.Exports.{settingsOf};
-ghost use Rattle.harness_exports.specs.Exported.{exportedHash, six, exportedSmallCase, exportedDistinct, withoutProof, numbersOf, withCounters, exportedProve, blocksNumbers, withBlocks, exportedWriteTicket, readNumbers, withRead, exportedReadTicket};
+ghost use Rattle.harness_exports.specs.Exported.{exportedHash, six, exportedSmallCase, exportedDistinct, withoutProof, numbersOf, withCounters, exportedProve, blocksNumbers, withBlocks, exportedWriteTicket, readNumbers, withRead, exportedReadTicket, planNumbers, withAmounts, exportedPlan};
+use centralized_telescope::Amounts;
 use centralized_telescope::Distinctness;
 use centralized_telescope::Params;
+use centralized_telescope::Planned;
 use centralized_telescope::ProofSearch;
 use centralized_telescope::RetryCounter;
 use centralized_telescope::SearchCounter;
@@ -284,5 +286,72 @@ pub extern "C" fn alba_read_ticket(
     let answer = centralized_telescope::read_ticket(ticket, data, ends, marks, indexes);
     let n = read_numbers(answer);
     put_read(n, out);
+    n.number
+}
+
+// What planning answers, in numbers.
+pub struct PlanNumbers {
+    pub number: u32,
+    pub amounts: Amounts,
+}
+
+fn plan_numbers(answer: Planned) -> PlanNumbers
+    ensures { λ r. ⌜ r ≡ planNumbers answer ⌝ }
+{
+    match answer {
+        Planned::Amounts(amounts) => PlanNumbers { number: 0, amounts },
+        Planned::Refused(k) => PlanNumbers {
+            number: refusal_number(k),
+            amounts: Amounts {
+                places: 0,
+                bin_table: 0,
+                most_steps: 0,
+                ticket_blocks: 0,
+            },
+        },
+    }
+}
+
+// The amounts into the first four lent numbers, if there are as many.
+fn put_amounts(a: Amounts, out: &mut [u64])
+    ensures { λ r. ⌜ now (out .exit) ≡ withAmounts a (now (out .entry)) ⌝ }
+{
+    if 4 <= out.len() {
+        out[0] = a.places;
+        out[1] = a.bin_table;
+        out[2] = a.most_steps;
+        out[3] = a.ticket_blocks;
+    }
+}
+
+// Planning: 0 or the number. `out` takes places, bin-table numbers, steps and blocks, zeros with a refusal, where it has four numbers or more.
+#[no_mangle]
+pub extern "C" fn alba_plan(
+    set_size: u64,
+    proof_size: u64,
+    max_retries: u64,
+    search_width: u64,
+    dfs_bound: u64,
+    x_high: u64,
+    x_low: u64,
+    longest: u64,
+    out: &mut [u64],
+) -> u32
+    ensures { λ r. ⌜ (r, now (out .exit)) ≡ exportedPlan (settingsOf «set_size» «proof_size» «max_retries» «search_width» «dfs_bound» «x_high» «x_low») longest (now (out .entry)) ⌝ }
+{
+    let p = Params {
+        set_size,
+        proof_size,
+        max_retries,
+        search_width,
+        dfs_bound,
+        x: U128 {
+            hi: x_high,
+            lo: x_low,
+        },
+    };
+    let answer = centralized_telescope::plan(p, longest);
+    let n = plan_numbers(answer);
+    put_amounts(n.amounts, out);
     n.number
 }

@@ -1,15 +1,12 @@
-// What the programs for files of elements and of proofs share: the files' forms, what is said of them, and the arguments that name them.
+// What the programs for files of elements and of proofs share: the files' forms, and what is said of them.
 //
 // No function that is seen outside asks anything of its caller.
-mod args;
 mod bytes_file;
 mod elements_file;
 mod proof_file;
 mod report;
 mod rooms;
 
-pub use args::path;
-pub use args::say_wrong;
 pub use bytes_file::Fetched;
 pub use bytes_file::is_bytes_written;
 pub use bytes_file::read_bytes;

@@ -1,35 +1,25 @@
 // Makes a proof from a file of elements, writes it to a file and verifies it; before it searches it says whether two elements are the same.
-// Or says the settings as a C header.
 //
 //     prove_and_verify ELEMENTS PROOF SET_SIZE U C
 //     prove_and_verify ELEMENTS PROOF SET_SIZE PROOF_SIZE MAX_RETRIES SEARCH_WIDTH DFS_BOUND X
-//     prove_and_verify header SET_SIZE U C
-//     prove_and_verify header SET_SIZE PROOF_SIZE MAX_RETRIES SEARCH_WIDTH DFS_BOUND X
 //
 // The first takes the small case's settings for proofs of U elements and completeness C, the second each setting by itself. ELEMENTS has an
 // element to a line: its data in hexadecimal, `-` where it is empty, and perhaps a space and its index in decimal. PROOF is a new
 // file, made once a proof is found: a line `proof R S`, then its elements, in the same form. C is a whole number, or 0x and the 16
 // hexadecimal digits of a double's bits; X has 32 hexadecimal digits. There is room for 65,536 elements of 1,048,576 data bytes in all, and
-// for 524,288 data bytes in a proof: with the deepest search, that is what fits the system's ordinary stack of 8 MB. The third and the
-// fourth say the same settings as lines of a C header, so that a loader can be compiled with them.
-mod args;
-mod header;
+// for 524,288 data bytes in a proof: with the deepest search, that is what fits the system's ordinary stack of 8 MB.
 mod proof_file;
 mod repeats;
-mod report;
 mod search;
-mod settings;
 
+use arguments::Asked;
+use arguments::Reading;
 use text::say::say;
 
 fn say_usage() {
     say(b"usage: prove_and_verify ELEMENTS PROOF SET_SIZE U C\n");
     say(
         b"       prove_and_verify ELEMENTS PROOF SET_SIZE PROOF_SIZE MAX_RETRIES SEARCH_WIDTH DFS_BOUND X\n",
-    );
-    say(b"       prove_and_verify header SET_SIZE U C\n");
-    say(
-        b"       prove_and_verify header SET_SIZE PROOF_SIZE MAX_RETRIES SEARCH_WIDTH DFS_BOUND X\n",
     );
     say(
         b"ELEMENTS  a file of elements, one to a line: data in hexadecimal, or -, and perhaps a space and the index\n",
@@ -41,23 +31,37 @@ fn say_usage() {
         b"U, C      proof size and completeness of the small case; C a whole number, or 0x and 16 hexadecimal digits of a double\n",
     );
     say(b"X         the threshold of 128 bits, in 32 hexadecimal digits\n");
-    say(b"header    says the settings as lines of a C header; no proof is made\n");
 }
 
-fn main() {
+// The settings follow the two files; what is past its limits the library refuses by number.
+fn behind_files() -> Reading {
+    Reading {
+        first: 3,
+        limited: false,
+    }
+}
+
+// A proof under the settings asked for, or nothing where a message said why not.
+fn make_proof(asked: Asked) {
     let mut elements = io::buffer();
     let mut proof = io::buffer();
-    let asked = settings::by_arguments(os::arg_count());
     match asked {
-        settings::Asked::Usage => say_usage(),
-        settings::Asked::Refused => {}
-        settings::Asked::Header(p) => header::say_header(p),
-        settings::Asked::Settings(p) => {
-            let n = proof_files::path(1, b"ELEMENTS", &mut elements);
-            let m = proof_files::path(2, b"PROOF", &mut proof);
+        Asked::Refused => {}
+        Asked::Settings(p) => {
+            let n = arguments::path(1, b"ELEMENTS", &mut elements);
+            let m = arguments::path(2, b"PROOF", &mut proof);
             if n != 0 && m != 0 {
                 search::run(p, &elements[..n], &proof[..m]);
             }
         }
+    }
+}
+
+fn main() {
+    // The program's own name is among them.
+    match os::arg_count() {
+        6 => make_proof(arguments::small_case(behind_files())),
+        9 => make_proof(arguments::each_by_itself(behind_files())),
+        _ => say_usage(),
     }
 }

@@ -1,7 +1,7 @@
 // A proof written out as a list, into its file, and verified.
 ghost use mathlib.Core.Path.{_≡_};
 ghost use lib.ListN.{length};
-use crate::report::say_refused;
+use arguments::say_refused;
 use centralized_telescope::Params;
 use centralized_telescope::RetryCounter;
 use centralized_telescope::SearchCounter;

@@ -4,10 +4,10 @@ ghost use lib.ListN.{length};
 use crate::proof_file;
 use crate::proof_file::Counters;
 use crate::repeats;
-use crate::settings;
 use centralized_telescope::Params;
 use centralized_telescope::ProofSearch;
 use centralized_telescope::proof_search_number;
+use libc::STDOUT_FILENO;
 use proof_files::first_numbers;
 use proof_files::is_there;
 use proof_files::say_of_file;
@@ -95,8 +95,21 @@ fn search(
     }
 }
 
+fn say_settings(p: Params) {
+    say_figure(b"settings: set size ", p.set_size);
+    say_figure(b", proof size ", p.proof_size);
+    say_figure(b", tries up to ", p.max_retries);
+    say_figure(b", search width ", p.search_width);
+    say_figure(b", step bound ", p.dfs_bound);
+    say(b", X ");
+    let x = p.x;
+    io::print_hex(STDOUT_FILENO, x.hi, 16);
+    io::print_hex(STDOUT_FILENO, x.lo, 16);
+    say(b"\n");
+}
+
 fn say_task(p: Params, elements: &[u8], n: usize) {
-    settings::say_settings(p);
+    say_settings(p);
     say(elements);
     say_figure(b": elements read ", n as u64);
     say_figure(b", kept for the search ", kept(n, p.set_size));

@@ -27,38 +27,18 @@ fn say_usage() {
     say(b"The first is read. The second is written; it must not be there yet\n");
 }
 
-fn is_read(word: &[u8]) -> bool {
-    if word.len() != 4 {
-        return false;
-    }
-    word[0] == b'r' && word[1] == b'e' && word[2] == b'a' && word[3] == b'd'
-}
-
-fn is_write(word: &[u8]) -> bool {
-    if word.len() != 5 {
-        return false;
-    }
-    word[0] == b'w' && word[1] == b'r' && word[2] == b'i' && word[3] == b't' && word[4] == b'e'
-}
-
-fn asked_by(word: &[u8]) -> Asked {
-    if is_read(word) {
-        return Asked::Read;
-    }
-    if is_write(word) {
-        return Asked::Write;
-    }
-    Asked::Usage
-}
-
 // With so many words on the command line, the program's name among them.
 fn asked_for(words: usize) -> Asked {
     if words != 4 {
         return Asked::Usage;
     }
-    let mut word = [0u8; 8];
-    let n = os::arg(1, &mut word);
-    asked_by(&word[..n])
+    if arguments::is_word(1, b"write") {
+        return Asked::Write;
+    }
+    if arguments::is_word(1, b"read") {
+        return Asked::Read;
+    }
+    Asked::Usage
 }
 
 fn main() {
@@ -68,15 +48,15 @@ fn main() {
     match way {
         Asked::Usage => say_usage(),
         Asked::Write => {
-            let n = proof_files::path(2, b"PROOF", &mut from);
-            let m = proof_files::path(3, b"TICKET", &mut to);
+            let n = arguments::path(2, b"PROOF", &mut from);
+            let m = arguments::path(3, b"TICKET", &mut to);
             if n != 0 && m != 0 {
                 convert::write(&from[..n], &to[..m]);
             }
         }
         Asked::Read => {
-            let n = proof_files::path(2, b"TICKET", &mut from);
-            let m = proof_files::path(3, b"PROOF", &mut to);
+            let n = arguments::path(2, b"TICKET", &mut from);
+            let m = arguments::path(3, b"PROOF", &mut to);
             if n != 0 && m != 0 {
                 convert::read(&from[..n], &to[..m]);
             }

@@ -43,6 +43,18 @@ impl Tally {
         self.0.keys().map(|key| key.1).collect()
     }
 
+    /// Each of these kinds must have come, with the answer if one is named.
+    pub fn none_missing(&self, mut kinds: impl Iterator<Item = (&'static str, Option<u32>)>) -> Checked {
+        let is_missing = |kind, answer: Option<u32>| answer.map_or(self.asked(kind), |answer| self.times(kind, answer)) == 0;
+        match kinds.find(|(kind, answer)| is_missing(kind, *answer)) {
+            Some((kind, answer)) => {
+                let with = answer.map_or(String::new(), |answer| format!(", with the answer {answer}"));
+                Err(format!("  nothing differs, but nothing of this kind has come: {kind}{with}\n"))
+            }
+            None => Ok(()),
+        }
+    }
+
     /// How many answers there were to each question, in parentheses; nothing where nothing was asked.
     pub fn totals(&self) -> String {
         let mut questions: BTreeMap<&str, u64> = BTreeMap::new();

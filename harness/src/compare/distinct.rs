@@ -1,7 +1,7 @@
 //! `alba_check_distinct` against the request's words (`distinctness` of rules.rs). The Rust's `check_distinct` goes by data alone, so it isn't
 //! asked.
 
-use super::blocks::{self, Block, Tally};
+use super::blocks::{self, Block};
 use super::planted::{self, Made, Planting, NUMBERS, PLANTS, SHAPES};
 use super::rules::{self, BYTES, ELEMENTS};
 use super::{faults, shown_list, verdicts, Answered, Checked, Run};
@@ -27,7 +27,8 @@ pub fn run(run: &mut Run, cases: u64) -> Checked {
         full(block)?;
         refusals(block)
     })?;
-    none_missing(&run.seen)
+    // Every kind of list, each pair with the answer that is its own.
+    run.seen.none_missing(planted::kinds())
 }
 
 /// The elements of a shape as they are, and with each pair.
@@ -123,13 +124,4 @@ fn answer_to(list: &List) -> Answered {
         return Err(format!("{}  ours: {ours}\n  due: {due}\n  the list is {}\n", shown_list(list), verdicts::as_it_was(lent == *list)));
     }
     Ok(ours)
-}
-
-/// Every kind of list must have come, each pair with the answer that is its own.
-pub fn none_missing(seen: &Tally) -> Checked {
-    let is_missing = |kind, answer: Option<u32>| answer.map_or(seen.asked(kind), |answer| seen.times(kind, answer)) == 0;
-    match planted::kinds().find(|(kind, answer)| is_missing(kind, *answer)) {
-        Some((kind, _)) => Err(format!("  nothing differs, but no list of this kind has come: {kind}\n")),
-        None => Ok(()),
-    }
 }

@@ -4,7 +4,7 @@
 use super::parameters::Args;
 use super::searches::Outcome;
 use super::verdicts::{self, Claim};
-use super::{chains, rules, searches, small_case, threshold, verifier_refusals};
+use super::{chains, plan, rules, searches, small_case, threshold, verifier_refusals};
 use crate::{
     ffi,
     ffi::{Listed, Rooms, Settings},
@@ -32,7 +32,7 @@ pub struct Export {
 const SEED: u64 = 0x43_c389_a516;
 
 pub fn all() -> Result<Vec<Export>, String> {
-    Ok(vec![uniform(), bernoulli(), converter(), hash(), small(), distinct(), prove()?, verify()?, write_ticket(), read_ticket()])
+    Ok(vec![uniform(), bernoulli(), converter(), hash(), small(), distinct(), prove()?, verify()?, write_ticket(), read_ticket(), plan()])
 }
 
 /// Parameters: h, n, out.
@@ -236,6 +236,24 @@ fn read_ticket() -> Export {
         Ok(answer.err().unwrap_or(0))
     };
     Export { name: "alba_read_ticket", args, answer: 0, ours, due }
+}
+
+/// Parameters: set_size, proof_size, max_retries, search_width, dfs_bound, x_high, x_low, longest, out. X's words are over every limit,
+/// dfs_bound over all but its own, and search_width over all but these two.
+fn plan() -> Export {
+    let args = Args {
+        numbers: vec![5, 3, 9, 1 << 31, 1 << 40, 3 << 62, 1 << 50, 700],
+        longs: vec![vec![7; plan::FIGURES + 1]],
+        unread: &[5, 6],
+        ..Args::default()
+    };
+    let ours = |args: &mut Args| ffi::plan(&settings(args), args.numbers[7], &mut args.longs[0][..]);
+    let due = |args: &mut Args| {
+        let (number, written) = plan::due(&settings(args), args.numbers[7]);
+        args.longs[0][..written.len()].copy_from_slice(&written);
+        Ok(number)
+    };
+    Export { name: "alba_plan", args, answer: 0, ours, due }
 }
 
 /// A list of which the Rust finds a proof that is wanted, and the proof.

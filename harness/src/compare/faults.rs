@@ -34,10 +34,17 @@ pub fn in_list(rng: &mut Rng, list: &mut List) {
     at_place(rng, list, fault, place);
 }
 
+/// A fault of any kind but the one that makes a list very long, at any place.
+pub fn in_short_list(rng: &mut Rng, list: &mut List) {
+    let (fault, place) = (rng.below(IN_LISTS - 1), rng.below(list.len().max(1) as u64) as usize);
+    let fault = if fault == TOO_MANY { IN_LISTS - 1 } else { fault };
+    at_place(rng, list, fault, place);
+}
+
 /// How many kinds of faults a list can have here.
 pub const IN_LISTS: u64 = 9;
 /// The one that makes a list very long.
-pub const TOO_MANY: u64 = 7;
+const TOO_MANY: u64 = 7;
 
 /// A fault of this kind, where it has a place at this one.
 pub fn at_place(rng: &mut Rng, list: &mut List, fault: u64, place: usize) {

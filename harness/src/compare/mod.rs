@@ -12,6 +12,8 @@ mod fence;
 pub mod hash;
 pub mod limits;
 mod parameters;
+pub mod plan;
+pub mod planned;
 pub mod planted;
 pub mod prover_refusals;
 pub mod refusals;
@@ -40,7 +42,7 @@ type Kind = fn(&mut Run, u64) -> Checked;
 
 pub fn run(options: &Compare) -> Checked {
     println!("seed 0x{:016x}, {} random cases", options.seed, options.cases);
-    let kinds: [(&str, Kind, u64); 17] = [
+    let kinds: [(&str, Kind, u64); 19] = [
         ("orders of parameters", parameters::run, 0),
         ("uniform", uniform::run, options.cases),
         ("threshold", threshold::run, options.cases),
@@ -58,6 +60,8 @@ pub fn run(options: &Compare) -> Checked {
         ("refusals of prove", prover_refusals::run, options.cases / 100),
         ("refusals of verify", verifier_refusals::run, options.cases / 100),
         ("tickets", tickets::run, options.cases / 50),
+        ("planning", plan::run, options.cases),
+        ("planned runs", planned::run, options.cases / 200),
     ];
     let (mut counts, mut parts) = (Vec::new(), String::new());
     for (stream, (name, kind, cases)) in (0..).zip(kinds) {

@@ -2,7 +2,8 @@
 //!
 //! Each export is called with arguments whose answer is known, and then with those of one type in each other order: every answer must be
 //! the one that the Rust and the specification give. A library whose own parameters stood in that order would have to answer the
-//! first call otherwise than is due; where it would not, the arguments don't tell the parameters apart, and that fails too.
+//! first call otherwise than is due; where it would not, the arguments don't tell the parameters apart, and that fails too. Let off are the
+//! orders of parameters on which no answer depends: planning takes X's two words, as every call with settings does, and reads neither.
 //!
 //! On x86-64 a double is passed apart from whole numbers and slices, so its place among them is none of the call's.
 
@@ -17,6 +18,8 @@ pub struct Args {
     pub bytes: Vec<Vec<u8>>,
     pub words: Vec<Vec<u32>>,
     pub longs: Vec<Vec<u64>>,
+    /// Which of the numbers no answer depends on, so that nothing tells their order among themselves.
+    pub unread: &'static [usize],
 }
 
 /// The types of which an export may have several parameters.
@@ -48,6 +51,11 @@ impl Args {
             Type::Longs => args.longs = reordered(&self.longs, order),
         }
         args
+    }
+
+    /// Whether an order moves none but the numbers that no answer depends on.
+    fn moves_unread_alone(&self, of: Type, order: &[usize]) -> bool {
+        matches!(of, Type::Numbers) && order.iter().enumerate().all(|(to, from)| to == *from || self.unread.contains(from))
     }
 }
 
@@ -103,7 +111,8 @@ fn in_other_orders(run: &mut Run, export: &Export, of: Type, own: &Answer) -> Ch
     for order in orders(export.args.how_many(of)).iter().skip(1) {
         let (number, after) = answer(export, &export.args.reordered(of, order))?;
         // What a caller would see of a library with its parameters in this order, each argument where the caller put it.
-        if (number, after.reordered(of, &back(order))) == *own {
+        let is_same = (number, after.reordered(of, &back(order))) == *own;
+        if is_same && !export.args.moves_unread_alone(of, order) {
             return Err(format!("  {}: the test is at fault, it doesn't tell {of:?} in the order {order:?} from their own\n", export.name));
         }
         note(run, export, number);
@@ -130,5 +139,13 @@ mod tests {
         all.sort();
         all.dedup();
         assert_eq!(all.len(), 24);
+    }
+
+    #[test]
+    fn what_is_unread_is_let_off_among_itself() {
+        let args = Args { numbers: vec![5, 6, 7, 8], unread: &[1, 2], ..Args::default() };
+        let let_off: Vec<_> = orders(4).into_iter().filter(|order| args.moves_unread_alone(Type::Numbers, order)).collect();
+        assert_eq!(let_off, [[0, 1, 2, 3], [0, 2, 1, 3]]);
+        assert!(!args.moves_unread_alone(Type::Longs, &[0, 2, 1, 3]));
     }
 }

@@ -130,10 +130,15 @@ pub fn check(block: &mut Block, given: &Given) -> Checked {
             return Err(format!("  {settings:?}\n{}  due: {due}\n  the search: {theirs}\n", shown_list(list)));
         }
     }
+    refuse_in(block, settings, list, due, (*places, *table))
+}
+
+/// The refusal with this number, in workspace of so many places and numbers of the bin table.
+pub fn refuse_in(block: &mut Block, settings: &Settings, list: &List, due: u32, (places, table): (usize, usize)) -> Checked {
     let rng = &mut block.rng;
     let out_len = [0, 2, 3, 3, 3, 5][rng.below(6) as usize];
-    let places = Fenced::new(rng, *places, |word| word as u32);
-    let table = Fenced::new(rng, *table, |word| word as u32);
+    let places = Fenced::new(rng, places, |word| word as u32);
+    let table = Fenced::new(rng, table, |word| word as u32);
     let out = Fenced::new(rng, out_len, |word| word);
     refuse(block, settings, list, due, (places, table, out))
 }

@@ -84,12 +84,19 @@ pub fn check_and_verify(block: &mut Block, s: &Settings, list: &List) -> Result<
     Ok(outcome)
 }
 
-/// One search of a list that both serve: number, counters, count and places, the bin table, and that nothing else has changed.
+/// One search of a list that both serve, in workspace that is enough or more.
 pub fn check(block: &mut Block, s: &Settings, list: &List) -> Result<Outcome, String> {
     let due = due(s, list)?;
-    let due_table = table_after(s, list, &due);
+    let workspace = (s.proof_size as usize + more(&mut block.rng), 3 * s.set_size as usize + 1 + more(&mut block.rng));
+    check_in(block, s, list, &due, workspace)?;
+    Ok(due)
+}
+
+/// The same with what is due at hand, in workspace of so many places and numbers of the bin table, which is enough: number, counters, count
+/// and places, the bin table, and that nothing else has changed.
+pub fn check_in(block: &mut Block, s: &Settings, list: &List, due: &Outcome, (places_len, table_len): (usize, usize)) -> Checked {
+    let due_table = table_after(s, list, due);
     let rng = &mut block.rng;
-    let (places_len, table_len) = (s.proof_size as usize + more(rng), 3 * s.set_size as usize + 1 + more(rng));
     let out_len = if rng.below(16) == 0 { rng.below(3) as usize } else { 3 + more(rng) };
     let mut places = Fenced::new(rng, places_len, |word| word as u32);
     let mut table = Fenced::new(rng, table_len, |word| word as u32);
@@ -112,7 +119,7 @@ pub fn check(block: &mut Block, s: &Settings, list: &List) -> Result<Outcome, St
         ));
     }
     block.tally.count("prove", ours);
-    Ok(due)
+    Ok(())
 }
 
 /// What a search comes to, 10 for too few elements too: with a q what the Rust answers, with an X by itself what the specification's words
@@ -221,15 +228,20 @@ pub fn next_bound(rng: &mut Rng, s: &Settings, last: &Outcome) -> u64 {
     }
 }
 
-/// From set_size elements to more than are kept, of which none is long.
+/// Enough elements for a set of this size, of which none is long.
 pub fn any_list(rng: &mut Rng, set_size: usize) -> List {
-    let len = match rng.below(4) {
+    let len = any_len(rng, set_size);
+    let longest = [0, 8, 48, 99][rng.below(4) as usize];
+    list_of(rng, len, 0, longest)
+}
+
+/// From set_size elements to more than are kept.
+pub fn any_len(rng: &mut Rng, set_size: usize) -> usize {
+    match rng.below(4) {
         0 => set_size,
         1 => 2 * set_size + rng.below(9) as usize,
         _ => set_size + rng.below(set_size as u64 + 1) as usize,
-    };
-    let longest = [0, 8, 48, 99][rng.below(4) as usize];
-    list_of(rng, len, 0, longest)
+    }
 }
 
 /// So many elements with data of these lengths; with and without index, with equal elements among them or nothing else, with bytes

@@ -25,7 +25,7 @@ pub struct Rooms {
 }
 
 /// Numbers of `out` that writer and reader write.
-const BLOCKS: usize = 1;
+pub const BLOCKS: usize = 1;
 const FIGURES: usize = 4;
 /// Lists in a block of cases, and changed tickets of each list.
 const LISTS: u64 = 50;
@@ -212,9 +212,7 @@ pub fn of_proof(block: &mut Block, proof: &Proof) -> Checked {
     let mut faulty = proof.clone();
     for _ in 0..1 + block.rng.below(2) {
         // Lists of too many elements are run with the large ones.
-        let (fault, place) = (block.rng.below(faults::IN_LISTS - 1), block.rng.below(proof.list.len().max(1) as u64));
-        let fault = if fault == faults::TOO_MANY { faults::IN_LISTS - 1 } else { fault };
-        faults::at_place(&mut block.rng, &mut faulty.list, fault, place as usize);
+        faults::in_short_list(&mut block.rng, &mut faulty.list);
     }
     write_twice(block, &faulty, bytes.len())
 }

@@ -1,20 +1,20 @@
 //! The library against the original Rust for as long as asked: settings and lists from the whole of the specification's domain, and bad
 //! input of every kind.
 
-mod draws;
+pub mod draws;
 mod turns;
 
 use crate::args::Load;
 use crate::compare::blocks::{self, Block, Tally};
-use crate::compare::{distinct, Checked};
+use crate::compare::{planned, planted, Checked};
 use std::panic::{self, AssertUnwindSafe};
 use std::sync::{Mutex, MutexGuard, PoisonError};
 use std::thread;
 use std::time::{Duration, Instant};
 
 /// The exported calls, as the tallies name them.
-const CALLS: [&str; 10] =
-    ["uniform", "Bernoulli", "threshold", "hash", "small case", "distinctness", "prove", "verify", "write ticket", "read ticket"];
+const CALLS: [&str; 11] =
+    ["uniform", "Bernoulli", "threshold", "hash", "small case", "distinctness", "prove", "verify", "write ticket", "read ticket", "plan"];
 /// How often a line says how far it is.
 const EVERY: Duration = Duration::from_secs(10);
 
@@ -25,7 +25,7 @@ struct Shared {
     end: u64,
     running: usize,
     tally: Tally,
-    /// How often each kind of list for distinctness came.
+    /// How often each kind of list for distinctness and of what is planned came.
     seen: Tally,
     failed: Checked,
 }
@@ -50,9 +50,10 @@ pub fn run(options: &Load) -> Checked {
     });
     let ended = shared.into_inner().unwrap_or_else(PoisonError::into_inner);
     ended.failed?;
-    print!("{}{}", table(&ended.tally), ended.seen.lines("distinctness"));
+    print!("{}{}", table(&ended.tally), ended.seen.lines("kinds"));
     if turn.is_none() {
-        distinct::none_missing(&ended.seen).map_err(|why| format!("distinctness: FAILED (seed 0x{seed:016x})\n{why}"))?;
+        let kinds = planted::kinds().chain(planned::kinds());
+        ended.seen.none_missing(kinds).map_err(|why| format!("kinds: FAILED (seed 0x{seed:016x})\n{why}"))?;
     }
     println!("equal in all cases: {}", so_far(&ended.tally, started));
     Ok(())

@@ -2,10 +2,11 @@
 
 use super::draws::{self, up_to};
 use crate::compare::blocks::Block;
+use crate::compare::planned::{self, Planned};
 use crate::compare::planted::{NUMBERS, PLANTS, SHAPES};
 use crate::compare::rules::{BYTES, ELEMENTS, MOST};
 use crate::compare::{
-    bernoulli, distinct, faults, hash, prover_refusals, refusals, searches, small_case, threshold, tickets, uniform, verdicts,
+    bernoulli, distinct, faults, hash, plan, prover_refusals, refusals, searches, small_case, threshold, tickets, uniform, verdicts,
     verifier_refusals,
 };
 use crate::compare::{Answered, Checked};
@@ -15,11 +16,12 @@ use std::sync::{Mutex, PoisonError};
 type Turn = fn(&mut Block) -> Checked;
 
 /// Each with its name and how often it comes in its turn: so often that most turns take some hundredths or tenths of a second.
-const TURNS: [(&str, u64, Turn); 9] = [
+const TURNS: [(&str, u64, Turn); 10] = [
     ("samplers", 20_000, samplers),
     ("hash", 4000, hashes),
     ("small case", 10_000, small_cases),
     ("distinctness", 4, distinctness),
+    ("planning", 4, planning),
     ("searches", 4, search),
     ("bad input to prove", 8, bad_to_prove),
     ("random proofs", 32, random_proof),
@@ -127,6 +129,18 @@ fn check_faulty(block: &mut Block, mut list: List) -> Checked {
         faults::in_list(&mut block.rng, &mut list);
         distinct::check_list(block, &list)
     })
+}
+
+/// Settings and lengths of every kind; then a search with what was planned for it, and some small ones.
+fn planning(block: &mut Block) -> Checked {
+    (0..5000).try_for_each(|_| plan::any(block))?;
+    let mut settings = draws::any_settings(&mut block.rng);
+    let list = draws::enough_elements(&mut block.rng, settings.set_size);
+    draws::keep_within(&mut block.rng, &mut settings, &list, 1 << 14);
+    let used = (0..list.len()).map(|place| list.data_of(place).len()).max().unwrap_or(0);
+    let longest = if block.rng.below(4) == 0 { used + up_to(&mut block.rng, (BYTES - used) as u64) as usize } else { used };
+    planned::check(block, &Planned { settings, list, longest })?;
+    (0..32).try_for_each(|_| planned::any(block))
 }
 
 /// One list with three bounds: the one drawn as far as the work admits it, one at or near which the outcome may turn, and one of any

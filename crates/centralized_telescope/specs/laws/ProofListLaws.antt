@@ -9,7 +9,7 @@ use borrow.Author.Tests.{eq-eqb, eqb-true, leb-false, le-ltb, ltb-false}
 use lib.Dec.{ltb, leb, eqb}
 use lib.ListN.{length, take, drop, getD, length-append, length-map}
 use lib.Seq.{take-at, drop-at}
-use Rattle.centralized_telescope.specs.laws.TestLaws.{neither}
+use Rattle.centralized_telescope.specs.laws.TestLaws.{neither, unsaid}
 use Rattle.centralized_telescope.specs.Elements.{Element, elementsFrom, elements, elementAt, indexOf, markOf, numberOf, markOver, endWrong, malformed, dataLong, tooLarge, listCheck}
 use Rattle.centralized_telescope.specs.laws.ElementsLaws.{data-there, bytes-short}
 use Rattle.centralized_telescope.specs.Lists.{Each, someOf}
@@ -115,10 +115,6 @@ module _ (d n m x : List ℕ) (A : listCheck d n m x ≡ 0) where
       rw (data-there d n m x A place (p .0), data-joined places (p .1))
 
 -- ---- what `write_proof` writes
-
-unsaid : (t : Bool) (k : ℕ) → cond t (suc k) 0 ≡ 0 → t ≡ false
-unsaid true k e = absurd (omega arith)
-unsaid false k e = refl
 
 module _ (places d n m x b′ n′ m′ x′ : List ℕ) where
   abbrev r : ProofList

@@ -30,6 +30,11 @@ pub both : (a : Bool) {b : Bool} → a && b ≡ true → (a ≡ true) × (b ≡ 
 both true e = (refl, e)
 both false e = absurd (not-both e refl)
 
+-- a line of a table that isn't met
+pub unsaid : (t : Bool) (k : ℕ) → cond t (suc k) 0 ≡ 0 → t ≡ false
+unsaid true k e = absurd (omega arith)
+unsaid false k e = refl
+
 pub either-way : {A : Type 0} (t : Bool) (x : A) → cond t x x ≡ x
 either-way true x = refl
 either-way false x = refl

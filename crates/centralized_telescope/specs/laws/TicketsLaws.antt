@@ -28,6 +28,11 @@ index-length (some v) = length-bytesOf 8 v
 pub head-length : (o : Option ℕ) (n : ℕ) → length (headBytes o n) ≡ 5 + 8 * markOf o
 head-length o n = omega (arith, length-append (indexBytes o) (bytesOf 4 n), index-length o, length-bytesOf 4 n)
 
+pub length-element : (e : Element) → length (elementBytes e) ≡ 5 + 8 * markOf (e .index) + length (e .bytes)
+unfolding elementBytes
+length-element e =
+    omega (arith, length-append (headBytes (e .index) (length (e .bytes))) (e .bytes), head-length (e .index) (length (e .bytes)))
+
 -- ---- an index by a mark of 0 or 1
 
 index-mark : (m v : ℕ) → m ≤ 1 → markOf (indexOf m v) ≡ m

@@ -49,7 +49,7 @@ filled-is s z n e l h =
 
 -- ---- R, S and the number of elements before the elements
 
-content-length : (R S : ℕ) (es : List Element) → length (content R S es) ≡ 20 + length (elementsBytes es)
+pub content-length : (R S : ℕ) (es : List Element) → length (content R S es) ≡ 20 + length (elementsBytes es)
 unfolding content
 content-length R S es = simp (length-append, length-bytesOf) (omega arith)
 

@@ -1,12 +1,12 @@
 -- `write_content`: the head, then the elements behind it.
-use mathlib.Core.Path.{_≡_, ap, _∙_}
-use Prim.Native.Nat.{_+_}
+use mathlib.Core.Path.{ap, _∙_}
 use native.Mathlib.Omega.{arith}
 use borrow.Author.Needs.{needs}
 use lib.ListN.{length}
 use Rattle.centralized_telescope.specs.Elements.{elements}
 use Rattle.centralized_telescope.specs.laws.ElementsLaws.{length-elements}
-use Rattle.centralized_telescope.proofs.TicketWriting.{length-headOf, length-content, content-put}
+use Rattle.centralized_telescope.specs.laws.TicketsReadLaws.{content-length}
+use Rattle.centralized_telescope.proofs.TicketWriting.{length-headOf, content-put}
 use Rattle.centralized_telescope.proofs.ticket.write_content.Statement.{statement}
 use Rattle.centralized_telescope.proofs.ticket.write_content.Tie as tie
 
@@ -20,25 +20,23 @@ copy-at-requires : tie.Need-copy-at-requires
 copy-at-requires c κs =
     let o = c .before .before .before .before .before .before .before .before in
     let z = o .args in
-    let N = length-elements (z .«data» .now) (z .ends .now) (z .marks .now) (z .indexes .now) (o .pre .0) in
     omega (
       arith,
       o .pre .1,
       ap length (c .before .before .content-head .ensures) ∙ length-headOf (z .retry .0) (z .search .0) (length (z .ends .now)),
-      length-content (z .retry .0) (z .search .0) _ (elements (z .«data» .now) (z .ends .now) (z .marks .now) (z .indexes .now)) N,
+      content-length (z .retry .0) (z .search .0) (elements (z .«data» .now) (z .ends .now) (z .marks .now) (z .indexes .now)),
     )
 
 write-elements-bytes-requires : tie.Need-write-elements-bytes-requires
 write-elements-bytes-requires c κs =
     let o = c .before .before .before .before .before .before .before .before .before .before .before .before in
-    let z = o .args in
-    let N = length-elements (z .«data» .now) (z .ends .now) (z .marks .now) (z .indexes .now) (o .pre .0) in (
+    let z = o .args in (
       o .pre .0,
       omega (
         arith,
         o .pre .1,
         c .before .before .before .copy-at .kept .1 .1 .0,
-        length-content (z .retry .0) (z .search .0) _ (elements (z .«data» .now) (z .ends .now) (z .marks .now) (z .indexes .now)) N,
+        content-length (z .retry .0) (z .search .0) (elements (z .«data» .now) (z .ends .now) (z .marks .now) (z .indexes .now)),
       ),
     )
 

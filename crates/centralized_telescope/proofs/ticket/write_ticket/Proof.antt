@@ -1,13 +1,13 @@
 -- `write_ticket`: the refusals in their order; else the content, its filling, and the blocks made of them.
-use mathlib.Core.Path.{_≡_, refl, sym, ap, _∙_}
-use Prim.Native.Nat.{_+_, _*_, _/_, _≤_}
+use mathlib.Core.Path.{_≡_, sym, ap, _∙_}
+use Prim.Native.Nat.{_+_, _≤_}
 use native.Mathlib.Omega.{arith}
 use borrow.Author.Needs.{needs}
 use lib.ListN.{length}
 use Rattle.centralized_telescope.specs.Elements.{elements, listCheck, listNumber}
-use Rattle.centralized_telescope.specs.Tickets.{elementsBytes, content}
-use Rattle.centralized_telescope.specs.laws.ElementsLaws.{length-elements, few-elements}
-use Rattle.centralized_telescope.proofs.TicketWriting.{length-content}
+use Rattle.centralized_telescope.specs.Tickets.{content}
+use Rattle.centralized_telescope.specs.laws.ElementsLaws.{few-elements}
+use Rattle.centralized_telescope.specs.laws.TicketsReadLaws.{content-length}
 use Rattle.centralized_telescope.proofs.TicketAnswers.{write-refused, write-short, write-done}
 use Rattle.centralized_telescope.proofs.ticket.write_ticket.Statement.{statement}
 use Rattle.centralized_telescope.proofs.ticket.write_ticket.Tie as tie
@@ -22,7 +22,7 @@ size-is : (s : tie.After-elements-size) → 20 + s .elements-size .result
 size-is s =
     let z = s .before .before .before .before .before .before .before .before .before .args in
     let es = elements (z .«data» .now) (z .ends .now) (z .marks .now) (z .indexes .now) in
-    omega (arith, s .elements-size .ensures .0, length-content (z .retry-counter .0) (z .search-counter .0) (length es) es refl)
+    omega (arith, s .elements-size .ensures .0, content-length (z .retry-counter .0) (z .search-counter .0) es)
 
 -- and small
 size-most : (s : tie.After-elements-size) → s .elements-size .result ≤ 269287424

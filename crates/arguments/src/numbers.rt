@@ -1,5 +1,6 @@
-// The program's arguments.
-use proof_files::say_wrong;
+// Arguments as numbers.
+use crate::report::say_not_within;
+use crate::report::say_wrong;
 use sampling::U128;
 use text::double;
 use text::hex;
@@ -18,11 +19,16 @@ pub struct Wide {
     pub value: U128,
 }
 
-// Argument i as the number that it writes in decimal, or a message.
-pub fn whole(i: usize, name: &[u8]) -> Number {
+// What argument i writes in decimal.
+fn decimal_at(i: usize) -> Number {
     let mut word = [0u8; 32];
     let n = os::arg(i, &mut word);
-    let read = number::decimal(&word[..n]);
+    number::decimal(&word[..n])
+}
+
+// Argument i as the number that it writes in decimal, or a message.
+pub fn whole(i: usize, name: &[u8]) -> Number {
+    let read = decimal_at(i);
     if !read.known {
         say_wrong(
             i,
@@ -31,6 +37,16 @@ pub fn whole(i: usize, name: &[u8]) -> Number {
         );
     }
     read
+}
+
+// The same of a number from `least` to `most`, which the message names.
+pub fn whole_within(i: usize, name: &[u8], least: u64, most: u64) -> Number {
+    let read = decimal_at(i);
+    if read.known && least <= read.value && read.value <= most {
+        return read;
+    }
+    say_not_within(i, name, least, most);
+    number::unknown()
 }
 
 fn double_of(read: Number) -> Double {
@@ -99,11 +115,16 @@ fn completeness_of(word: &[u8]) -> Double {
     }
 }
 
-// Argument i as a completeness, or a message.
-pub fn completeness(i: usize, name: &[u8]) -> Double {
+// What argument i writes as a completeness.
+fn completeness_at(i: usize) -> Double {
     let mut word = [0u8; 32];
     let n = os::arg(i, &mut word);
-    let read = completeness_of(&word[..n]);
+    completeness_of(&word[..n])
+}
+
+// Argument i as a completeness, or a message.
+pub fn completeness(i: usize, name: &[u8]) -> Double {
+    let read = completeness_at(i);
     if !read.known {
         say_wrong(
             i,
@@ -112,4 +133,29 @@ pub fn completeness(i: usize, name: &[u8]) -> Double {
         );
     }
     read
+}
+
+// Whether the small case takes a completeness. It takes no NaN, which is neither below a number nor above one.
+fn is_taken(c: f64) -> bool {
+    if c < 0.0 {
+        return false;
+    }
+    c <= 65535.0
+}
+
+// The same of one that the small case takes; the message names the limits.
+pub fn completeness_within(i: usize, name: &[u8]) -> Double {
+    let read = completeness_at(i);
+    if read.known && is_taken(read.value) {
+        return read;
+    }
+    say_wrong(
+        i,
+        name,
+        b"a whole number from 0 to 65535, or 0x and 16 hexadecimal digits of a double from 0 to 65535",
+    );
+    Double {
+        known: false,
+        value: 0.0,
+    }
 }

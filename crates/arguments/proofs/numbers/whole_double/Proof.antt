@@ -1,11 +1,11 @@
--- `args::whole_double`: a whole number below 65,536 is a double.
+-- `numbers::whole_double`: a whole number below 65,536 is a double.
 use Prim.Native.Nat.{_^_}
 use native.Mathlib.Omega.{arith}
 use borrow.Author.Needs.{needs}
 use lib.Dec.{le→leb}
 use lib.Ieee.{inFloat}
-use Rattle.prove_and_verify.proofs.args.whole_double.Statement.{statement}
-use Rattle.prove_and_verify.proofs.args.whole_double.Tie as tie
+use Rattle.arguments.proofs.numbers.whole_double.Statement.{statement}
+use Rattle.arguments.proofs.numbers.whole_double.Tie as tie
 
 int-to-float-result : tie.Need-int-to-float-result
 unfolding inFloat

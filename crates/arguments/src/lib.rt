@@ -1,0 +1,18 @@
+// What a program's arguments say: words, names of files, numbers and settings. What is wrong with one is said in words, what the library
+// refuses by number.
+//
+// No function that is seen outside asks anything of its caller.
+mod numbers;
+mod report;
+mod settings;
+mod words;
+
+pub use numbers::whole_within;
+pub use report::say_refused;
+pub use settings::Asked;
+pub use settings::Reading;
+pub use settings::each_by_itself;
+pub use settings::small_case;
+pub use words::is_word;
+pub use words::path;
+pub use words::say_argument;

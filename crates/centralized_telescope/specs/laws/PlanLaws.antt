@@ -1,0 +1,98 @@
+-- Laws of planning: the answer by the lines of the table, and how many bytes a proof's ticket holds.
+use mathlib.Core.Path.{_≡_, refl, sym, ap, _∙_}
+use mathlib.Core.Bool.{Bool, true, false, cond}
+use mathlib.Core.List.{List, [], _∷_}
+use mathlib.Core.Option.{none}
+use Prim.Native.Nat.{ℕ, _+_, _*_, _≤_, _<_}
+use native.Mathlib.Omega.{arith}
+use borrow.Author.Tests.{eq-eqb, ne-eqb, eqb-true, lt-ltb, le-ltb, ltb-false}
+use lib.Dec.{ltb, eqb}
+use lib.ListN.{length, length-append}
+use Rattle.centralized_telescope.specs.declared.errors.Refusal.{Refusal}
+use Rattle.centralized_telescope.specs.declared.errors.Refusal.the-variants as refusal
+use Rattle.centralized_telescope.specs.declared.params.Params.{Params}
+use Rattle.centralized_telescope.specs.declared.planning.Amounts.{Amounts}
+use Rattle.centralized_telescope.specs.laws.TestLaws.{unsaid}
+use Rattle.centralized_telescope.specs.laws.ListsLaws.{number-passed, number-met, number-last, second-met, number-none}
+use Rattle.centralized_telescope.specs.laws.RefusalsLaws.{refusal-number}
+use Rattle.centralized_telescope.specs.laws.TicketsLaws.{length-element, marked-one}
+use Rattle.centralized_telescope.specs.laws.TicketsReadLaws.{content-length}
+use Rattle.centralized_telescope.specs.Lists.{Each}
+use Rattle.centralized_telescope.specs.Refusals.{refusalNumber}
+use Rattle.centralized_telescope.specs.Params.{checked}
+use Rattle.centralized_telescope.specs.Elements.{Element, markOf}
+use Rattle.centralized_telescope.specs.Tickets.{elementBytes, elementsBytes, content}
+use Rattle.centralized_telescope.specs.Plan.{amounts, noAmounts, planRefusal, planned}
+
+-- ---- the answer
+
+module _ (p : Params) (longest : ℕ) where
+  refusal-is : (k : Refusal) → planRefusal p longest ≡ refusalNumber k → planned p longest ≡ (refusalNumber k, noAmounts)
+  unfolding planned
+  refusal-is k e = rw (e, ne-eqb (refusalNumber k) 0 (refusal-number k))
+
+  -- 1, 2
+  pub settings-refused : (k : Refusal) → checked p ≡ refusalNumber k → planned p longest ≡ (refusalNumber k, noAmounts)
+  unfolding planRefusal
+  settings-refused k e = refusal-is k (number-met (checked p) _ (refusalNumber k) e (refusal-number k))
+
+  -- 5
+  pub length-refused : checked p ≡ 0 → 4096 < longest → planned p longest ≡ (5, noAmounts)
+  unfolding planRefusal
+  length-refused s h =
+      refusal-is refusal.TooLarge (second-met (checked p) (cond (ltb 4096 longest) 5 0) _ 5 s (rw (lt-ltb 4096 longest h)) (refusal-number refusal.TooLarge))
+
+  pub amounts-given : checked p ≡ 0 → longest ≤ 4096 → planned p longest ≡ (0, amounts p longest)
+  unfolding planned planRefusal
+  amounts-given s h =
+      let none : planRefusal p longest ≡ 0 = number-passed (checked p) _ s ∙ number-last (cond (ltb 4096 longest) 5 0) ∙ rw (le-ltb 4096 longest h) in
+      rw (eq-eqb (planRefusal p longest) 0 none)
+
+  -- what a caller knows of amounts that were given
+  pub record Given (a : Amounts) : Type 0 where
+    pub settings : checked p ≡ 0
+    pub short : longest ≤ 4096
+    pub same : a ≡ amounts p longest
+
+  none-met : (a : Amounts) → planned p longest ≡ (0, a) → planRefusal p longest ≡ 0
+  unfolding planned
+  none-met a = go (eqb refusal 0) refl
+    where
+      refusal : ℕ
+      refusal = planRefusal p longest
+
+      go : (t : Bool) → eqb refusal 0 ≡ t → _≡_ {A = ℕ × Amounts} (cond t (0, amounts p longest) (refusal, noAmounts)) (0, a) → refusal ≡ 0
+      go true e h = eqb-true refusal 0 e
+      go false e h = ap (λ (r : ℕ × Amounts). r .0) h
+
+  pub given : (a : Amounts) → planned p longest ≡ (0, a) → Given a
+  unfolding planRefusal
+  given a e =
+      let s = number-none _ _ (none-met a e) in
+      let l = number-none _ _ (s .1) in
+      let short = ltb-false 4096 longest (unsaid (ltb 4096 longest) 4 (l .0)) in
+      record { settings = s .0; short = short; same = ap (λ (r : ℕ × Amounts). r .1) (sym e ∙ amounts-given (s .0) short) }
+
+-- ---- how many bytes a ticket holds
+
+module _ (longest : ℕ) where
+  elements-most : (es : List Element) → Each (λ (e : Element). length (e .bytes) ≤ longest) es → length (elementsBytes es) ≤ length es * (13 + longest)
+  unfolding Each elementsBytes
+  elements-most [] h = omega arith
+  elements-most (e ∷ es) h =
+      omega (arith, length-append (elementBytes e) (elementsBytes es), length-element e, marked-one (e .index), h .0, elements-most es (h .1))
+
+  elements-exact : (es : List Element) → Each (λ (e : Element). (length (e .bytes) ≡ longest) × (markOf (e .index) ≡ 1)) es
+      → length (elementsBytes es) ≡ length es * (13 + longest)
+  unfolding Each elementsBytes
+  elements-exact [] h = omega arith
+  elements-exact (e ∷ es) h =
+      omega (arith, length-append (elementBytes e) (elementsBytes es), length-element e, h .0 .0, h .0 .1, elements-exact es (h .1))
+
+  pub content-most : (R S : ℕ) (es : List Element) → Each (λ (e : Element). length (e .bytes) ≤ longest) es
+      → length (content R S es) ≤ 20 + length es * (13 + longest)
+  content-most R S es h = omega (arith, content-length R S es, elements-most es h)
+
+  pub content-exact : (R S : ℕ) (es : List Element) → Each (λ (e : Element). (length (e .bytes) ≡ longest) × (markOf (e .index) ≡ 1)) es
+      → length (content R S es) ≡ 20 + length es * (13 + longest)
+  content-exact R S es h = omega (arith, content-length R S es, elements-exact es h)
