@@ -250,7 +250,7 @@ int main(int count, char **arguments) {
                     p.search_counter, p.data, p.data_len, p.ends, 4 * p.elements, p.marks, p.elements, p.indexes, 8 * p.elements);
     /*
      * Green says, by the telescope's theorem, which isn't proved here, that more than f different elements stand behind the proof but for a
-     * chance of about 2^-s (telescope.h). It doesn't say that any of them is genuine: invented bytes go green, so a drive also checks of
+     * chance of at most 2^-s (telescope.h). It doesn't say that any of them is genuine: invented bytes go green, so a drive also checks of
      * each element, its index included, that a bench made it.
      */
     printf("%s (%" PRIu32 "): %s\n", number == ALBA_ACCEPTED ? "green" : "dark", number, words(number));

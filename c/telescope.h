@@ -7,18 +7,19 @@
  * that follows it, for reads (const) or for writes; with length 0 it may be null. What is lent for writing must not overlap what is
  * lent for reading. Nothing is kept after a call, nothing is allocated, and the functions may run on several threads at once.
  *
- * A loader has its settings as whole numbers, in a header of its own, such as the program plan prints: `plan case SET_SIZE U C LONGEST`.
+ * A loader has its settings as whole numbers, in a header of its own, such as the program plan prints: `plan security S C N F LONGEST`.
  * X, a number of 128 bits, stands there, and in every call that takes or gives it, as two words of 64 bits, the high one first. Only who
  * starts from a probability q, a host that makes such a header, has a double: alba_threshold makes X of it.
  *
  * What ALBA_ACCEPTED, green, means: the chain of the proof's elements exists and passes under the settings, which must be the loader's
  * own. So much is proved. By the telescope's theorem, which takes SHA-256 for a random function and isn't proved here, it shows that more
- * than f different elements stand behind the proof, f being smaller than set_size: someone who has only f goes green with a chance of at
- * most about 2^-s, where, with the small case's settings for completeness c,
+ * than f different elements stand behind the proof, f being smaller than set_size: someone who has at most f goes green with a probability
+ * of at most 2^-s, where, with the small case's settings for completeness c,
  *
  *     proof_size >= (s + log2 c + 5 - log2 log2 e) / log2(set_size / f)
  *
- * Set_size 400, proof_size 328 and c = 10, say, have s = 128 against f = 300; README.md has a table. What green doesn't mean:
+ * Set_size 400, proof_size 328 and c = 10, say, have s = 128 against f = 300. `plan security` works proof_size out of s, c, set_size and f;
+ * README.md says more of them, and has a table. What green doesn't mean:
  * - that elements are distinct: a proof may have one several times, and one that is listed often counts once. The server has to call
  *   check_distinct on its list: two elements are the same when data and mark agree and, where the mark is 1, the index.
  * - that an element is genuine: invented bytes go green, and so do one board's data under many indexes, which are different elements. A

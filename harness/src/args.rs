@@ -6,8 +6,9 @@ pub const HELP: &str = "\
 usage: harness compare [--cases N] [--seed S]
        harness load --minutes N | --seconds N [--seed S] [--threads T]
        harness load --turn N --seed S
+       harness sizes --minutes N | --seconds N | --turns N [--seed S]
        harness answers [--seed S]
-       harness bench [--steps | --tickets | --distinctness]
+       harness bench [--steps | --tickets | --distinctness | --sizes]
        harness stack
        harness --help
 
@@ -15,8 +16,8 @@ compare   Runs the verified library and the original Rust on the same inputs and
           Limits and bad input are always run whole; --cases says how many random inputs there are besides.
   --cases N   random inputs for each of the uniform sampler, the Bernoulli sampler by q and by X, the converter and planning, N / 20
               messages to hash, N / 20 of the small case, N / 10 lists for distinctness, N / 10 small searches, N / 20 by X, N / 100 bad
-              inputs for each of prover and verifier, N / 50 lists for tickets, each with five changed tickets, and N / 200 searches
-              with what was planned (default 2000000)
+              inputs for each of prover and verifier, N / 50 lists for tickets, each with five changed tickets, N / 200 searches
+              with what was planned, and N / 40 security figures (default 2000000)
   --seed S    decimal, or hexadecimal after 0x (default: from the clock; it is printed)
           It ends with a line of counts, or with the first case that differs and status 1.
 
@@ -30,6 +31,13 @@ load      Compares them for as long as asked, on settings and lists from the who
   --threads T (default 2)
   --turn N    that turn of the seed's alone, as after a case that differs
 
+sizes     Looks for security figures of which the Rust, by its doubles, makes another proof size than the request's words do, and says
+          which of the two is right by log2 e with sixty decimals. It prints how many were tried and every kind of difference. Such
+          differences are no failure; that the library doesn't keep to the request is.
+  --minutes N, --seconds N   how long
+  --turns N   so many turns, as a run before had them
+  --seed S    as above
+
 answers   Writes a list of cases to standard output with the original Rust's answers, on distinctness with those of its definition; the
           library is not asked. With the same seed the list is the same, byte for byte; with the usual one it is the list in
           crates/vectors/data/answers.txt.
@@ -40,6 +48,7 @@ bench     Prints a Markdown table of speeds: the library, the Rust and OpenSSL, 
   --steps     the time of a search's step alone, at proof sizes from 1 to 1,024
   --tickets   the speed of the calls for tickets alone
   --distinctness   the time of the check of distinctness alone
+  --sizes     the time of the proof size alone
 
 stack     Says how much stack a search of the greatest length takes.
 ";
@@ -57,10 +66,17 @@ pub struct Load {
     pub turn: Option<u64>,
 }
 
+pub struct Sizes {
+    pub time: Duration,
+    pub turns: u64,
+    pub seed: u64,
+}
+
 pub enum Command {
     Help,
     Compare(Compare),
     Load(Load),
+    Sizes(Sizes),
     /// With this seed.
     Answers(u64),
     Bench(Bench),
@@ -76,6 +92,8 @@ pub enum Bench {
     Tickets,
     /// The check of distinctness.
     Distinctness,
+    /// The proof size from security figures.
+    Sizes,
     /// The rows for one of OpenSSL's other settings, for which the benchmark starts itself again.
     #[cfg_attr(not(feature = "bench"), allow(dead_code))]
     OpenSsl(usize),
@@ -92,6 +110,7 @@ pub fn parse(mut words: impl Iterator<Item = String>) -> Result<Command, String>
     match words.next().as_deref() {
         Some("compare") => compare(words).map(Command::Compare),
         Some("load") => load(words).map(Command::Load),
+        Some("sizes") => sizes(words).map(Command::Sizes),
         Some("answers") => answers(words).map(Command::Answers),
         Some("bench") => bench(words).map(Command::Bench),
         Some("stack") => match words.next().as_deref() {
@@ -111,6 +130,7 @@ fn bench(mut words: impl Iterator<Item = String>) -> Result<Bench, String> {
         Some("--steps") => Bench::Steps,
         Some("--tickets") => Bench::Tickets,
         Some("--distinctness") => Bench::Distinctness,
+        Some("--sizes") => Bench::Sizes,
         Some(AGAIN) => Bench::OpenSsl(words.next().and_then(|word| word.parse().ok()).ok_or("a setting's number is wanted")?),
         Some(word) => return Err(format!("bench has no `{word}`")),
     };
@@ -126,11 +146,25 @@ fn load(words: impl Iterator<Item = String>) -> Result<Load, String> {
     let any_turn = u64::MAX;
     let options = [("--minutes", 0), ("--seconds", 0), ("--seed", from_clock()), ("--threads", 2), ("--turn", any_turn)];
     let [minutes, seconds, seed, threads, turn] = numbers("load", words, options)?;
-    let time = Duration::from_secs(minutes.saturating_mul(60).saturating_add(seconds));
+    let time = duration(minutes, seconds);
     if turn == any_turn && time.is_zero() {
         return Err("load wants --minutes or --seconds".to_string());
     }
     Ok(Load { time, seed, threads: threads.clamp(1, 64) as usize, turn: (turn != any_turn).then_some(turn) })
+}
+
+fn sizes(words: impl Iterator<Item = String>) -> Result<Sizes, String> {
+    let [minutes, seconds, turns, seed] =
+        numbers("sizes", words, [("--minutes", 0), ("--seconds", 0), ("--turns", u64::MAX), ("--seed", from_clock())])?;
+    let time = duration(minutes, seconds);
+    if time.is_zero() && turns == u64::MAX {
+        return Err("sizes wants --minutes, --seconds or --turns".to_string());
+    }
+    Ok(Sizes { time: if time.is_zero() { Duration::MAX } else { time }, turns, seed })
+}
+
+fn duration(minutes: u64, seconds: u64) -> Duration {
+    Duration::from_secs(minutes.saturating_mul(60).saturating_add(seconds))
 }
 
 /// The numbers after these words, or those given here.
@@ -193,6 +227,17 @@ mod tests {
         assert_eq!(load("load --turn 0 --seed 3 --threads 0"), (0, 3, 1, Some(0)));
         assert_eq!(load("load --seconds 1 --seed 3 --threads 1000"), (1, 3, 64, None));
         assert_eq!(why_not("load --seed 3"), "load wants --minutes or --seconds");
+    }
+
+    #[test]
+    fn sizes_want_a_time_or_turns() {
+        let sizes = |line| match parsed(line) {
+            Ok(Command::Sizes(sizes)) => (sizes.time, sizes.turns, sizes.seed),
+            _ => panic!("{line}"),
+        };
+        assert_eq!(sizes("sizes --minutes 10 --seed 3"), (Duration::from_secs(600), u64::MAX, 3));
+        assert_eq!(sizes("sizes --turns 7 --seed 3"), (Duration::MAX, 7, 3));
+        assert_eq!(why_not("sizes --seed 3"), "sizes wants --minutes, --seconds or --turns");
     }
 
     #[test]

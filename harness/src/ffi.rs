@@ -3,6 +3,7 @@
 //! Nothing checks these declarations against the library, so they are few, and on numbers and bytes alone. A slice passes as a pointer
 //! and then a length. No call has a precondition: whatever is lent, the answer is one of the numbers named here.
 
+use crate::proof_size::Figures;
 use crate::threshold::{self, Threshold};
 
 #[rustfmt::skip]
@@ -45,6 +46,7 @@ extern "C" {
         set_size: u64, proof_size: u64, max_retries: u64, search_width: u64, dfs_bound: u64, x_high: u64, x_low: u64, longest: u64,
         out: *mut u64, out_len: usize,
     ) -> u32;
+    fn alba_proof_size(s: u64, c: u64, n: u64, f: u64, out: *mut u64, out_len: usize) -> u32;
 }
 
 /// set_size is out of range.
@@ -91,6 +93,10 @@ pub const DAMAGED_TICKET: u32 = 40;
 pub const NO_TICKET: u32 = 41;
 /// A lent buffer is too short for what is to be written.
 pub const BUFFER_SHORT: u32 = 42;
+/// A security figure is out of its range.
+pub const BAD_FIGURES: u32 = 43;
+/// No proof size up to 1,024 meets the security figures.
+pub const NO_SIZE: u32 = 44;
 /// The most bytes that the four strings of a hash may have together.
 pub const LONGEST: usize = 1 << 29;
 
@@ -276,4 +282,11 @@ pub fn plan(s: &Settings, longest: u64, out: &mut (impl Place<u64> + ?Sized)) ->
     let Settings { set_size, proof_size, max_retries, search_width, dfs_bound, .. } = *s;
     // SAFETY: the pointer is valid for reads and writes of its length.
     unsafe { alba_plan(set_size, proof_size, max_retries, search_width, dfs_bound, x_high, x_low, longest, out, out_len) }
+}
+
+/// 0, or the number of the refusal. If `out` has a number or more, the first takes the size (0 with a refusal).
+pub fn proof_size(figures: &Figures, out: &mut (impl Place<u64> + ?Sized)) -> u32 {
+    let ((out, out_len), Figures { s, c, n, f }) = (out.parts(), *figures);
+    // SAFETY: the pointer is valid for reads and writes of its length.
+    unsafe { alba_proof_size(s, c, n, f, out, out_len) }
 }

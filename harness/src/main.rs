@@ -1,19 +1,24 @@
 //! Compares the verified library with the Rust that it is made from, and with the specification's words where they say what the Rust hasn't
-//! (`compare`, `load`), stores answers (`answers`), and measures both (`bench`, `stack`).
+//! (`compare`, `load`), looks where the Rust's proof size is another (`sizes`), stores answers (`answers`), and measures both (`bench`,
+//! `stack`).
 
 mod answers;
 mod args;
 #[cfg(feature = "bench")]
 mod bench;
+mod big;
 mod compare;
 mod ffi;
 mod list;
 mod load;
 mod original;
+mod proof_size;
 mod rng;
+mod sizes;
 mod stack;
 mod threshold;
 mod ticket;
+mod turning;
 
 use args::Command;
 use std::process::ExitCode;
@@ -46,6 +51,7 @@ fn main() -> ExitCode {
         }
         Command::Compare(options) => compare::run(&options),
         Command::Load(options) => load::run(&options),
+        Command::Sizes(options) => sizes::run(&options),
         Command::Answers(seed) => answers::run(seed),
         Command::Bench(part) => bench::run(part),
         Command::Stack(depth) => stack::run(depth),

@@ -1,6 +1,7 @@
 //! The Rust's prover and verifier, their answers by the specification's numbers.
 
 use crate::ffi::{self, Settings};
+use crate::proof_size::Figures;
 use crate::threshold::Threshold::OfQ;
 use oracle::centralized_telescope::{params::Params, proof::Proof, telescope::Telescope};
 use oracle::utils::errors::{ProofGenerationError, VerificationError};
@@ -31,6 +32,11 @@ pub fn small_case(set_size: u64, proof_size: u64, completeness: f64) -> Settings
         dfs_bound: p.dfs_bound,
         x: OfQ(p.valid_proof_probability),
     }
+}
+
+/// The proof size that `Params::new` makes of the figures, in doubles.
+pub fn proof_size(figures: &Figures) -> u64 {
+    Params::new(figures.s as f64, figures.c as f64, figures.n, figures.f).proof_size
 }
 
 /// `Telescope::prove` over `setup_unsafe`, the prover as the Rust's users call it: the proof or the number.

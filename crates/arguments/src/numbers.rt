@@ -82,7 +82,7 @@ pub fn threshold(i: usize, name: &[u8]) -> Wide {
 }
 
 // A whole number as a double. From 65,536 on all are refused alike, so the double is 65,536.
-fn whole_double(n: u64) -> f64 {
+pub fn whole_double(n: u64) -> f64 {
     if n < 65536 {
         return n as f64;
     }

@@ -1,4 +1,4 @@
-// Settings, by the small case or each by itself.
+// Settings, by the security figures, by the small case or each by itself.
 use crate::numbers;
 use crate::numbers::Double;
 use crate::report::say_refused;
@@ -6,6 +6,7 @@ use centralized_telescope::Params;
 use centralized_telescope::Refusal;
 use centralized_telescope::SmallCase;
 use centralized_telescope::SmallSettings;
+use centralized_telescope::SmallestSize;
 use text::number::Number;
 
 // How the settings stand among a program's arguments.
@@ -21,6 +22,15 @@ pub enum Asked {
     Settings(Params),
     // said by a message
     Refused,
+}
+
+// The security figures, where the arguments write them.
+pub struct Figures {
+    pub known: bool,
+    pub soundness: u64,
+    pub completeness: u64,
+    pub set_size: u64,
+    pub lower_bound: u64,
 }
 
 // The argument that stands k behind the first. The greatest number, where there is no such sum, is no argument's.
@@ -63,6 +73,15 @@ fn refused(k: Refusal) -> Asked {
     Asked::Refused
 }
 
+// The small case's settings for proofs of u elements with completeness c, and a set size.
+fn of_small_case(set_size: u64, u: u64, c: f64) -> Asked {
+    let answer = centralized_telescope::param_small_case(u, c);
+    match answer {
+        SmallCase::Settings(s) => Asked::Settings(with_set_size(set_size, s)),
+        SmallCase::Refused(k) => refused(k),
+    }
+}
+
 // SET_SIZE U C: the small case's settings for proofs of U elements with completeness C.
 pub fn small_case(from: Reading) -> Asked {
     let set_size = whole(from, 0, b"SET_SIZE", 1, 32768);
@@ -77,10 +96,67 @@ pub fn small_case(from: Reading) -> Asked {
     if !c.known {
         return Asked::Refused;
     }
-    let answer = centralized_telescope::param_small_case(u.value, c.value);
+    of_small_case(set_size.value, u.value, c.value)
+}
+
+pub fn no_figures() -> Figures {
+    Figures {
+        known: false,
+        soundness: 0,
+        completeness: 0,
+        set_size: 0,
+        lower_bound: 0,
+    }
+}
+
+// The number before n; of 0, which has none, 0.
+fn before(n: u64) -> u64 {
+    if n == 0 {
+        return 0;
+    }
+    n - 1
+}
+
+// S C N F: soundness, completeness, set size and the lower bound to be shown, which is below the set size.
+pub fn security_figures(from: Reading) -> Figures {
+    let soundness = whole(from, 0, b"S", 0, 256);
+    if !soundness.known {
+        return no_figures();
+    }
+    let completeness = whole(from, 1, b"C", 1, 1024);
+    if !completeness.known {
+        return no_figures();
+    }
+    let set_size = whole(from, 2, b"N", 2, 32768);
+    if !set_size.known {
+        return no_figures();
+    }
+    let lower_bound = whole(from, 3, b"F", 1, before(set_size.value));
+    if !lower_bound.known {
+        return no_figures();
+    }
+    Figures {
+        known: true,
+        soundness: soundness.value,
+        completeness: completeness.value,
+        set_size: set_size.value,
+        lower_bound: lower_bound.value,
+    }
+}
+
+// The small case's settings for the smallest proof size that these figures allow.
+pub fn settings_for(f: Figures) -> Asked {
+    let answer = centralized_telescope::proof_size(
+        f.soundness,
+        f.completeness,
+        f.set_size,
+        f.lower_bound,
+    );
     match answer {
-        SmallCase::Settings(s) => Asked::Settings(with_set_size(set_size.value, s)),
-        SmallCase::Refused(k) => refused(k),
+        SmallestSize::Size(u) => {
+            of_small_case(f.set_size, u, numbers::whole_double(f.completeness))
+        }
+        SmallestSize::Refused(k) => refused(k),
     }
 }
 

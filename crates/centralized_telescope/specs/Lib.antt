@@ -19,6 +19,7 @@ pub mod TicketClaims
 pub mod Demand3
 pub mod Plan
 pub mod PlanClaims
+pub mod ProofSize
 pub mod AllCases
 pub mod laws
 pub mod inner

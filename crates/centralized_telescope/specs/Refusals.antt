@@ -16,3 +16,5 @@ refusalNumber refusal.Completeness = 31  -- small case: c
 refusalNumber refusal.DamagedTicket = 40  -- 02, N1, the reader: size or check
 refusalNumber refusal.NoTicket = 41  -- 02, N1, the reader: layout or limits
 refusalNumber refusal.BufferShort = 42  -- a buffer to write into
+refusalNumber refusal.Figures = 43  -- 02, N6: a security figure
+refusalNumber refusal.NoSize = 44  -- 02, N6: no size up to 1,024

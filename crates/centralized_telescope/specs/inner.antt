@@ -6,3 +6,4 @@ pub mod Walk
 pub mod Visit
 pub mod Sorting
 pub mod TicketReading
+pub mod Digits

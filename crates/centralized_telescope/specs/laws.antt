@@ -22,3 +22,5 @@ pub mod BlocksReadLaws
 pub mod TicketsLaws
 pub mod TicketsReadLaws
 pub mod PlanLaws
+pub mod DigitsLaws
+pub mod ProofSizeLaws

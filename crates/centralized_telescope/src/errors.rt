@@ -27,6 +27,10 @@ pub enum Refusal {
     NoTicket,
     // a lent buffer has no room for what is to be written
     BufferShort,
+    // a security figure is outside its range
+    Figures,
+    // no proof size up to its limit is enough for the security figures
+    NoSize,
 }
 
 // The number of a refusal.
@@ -45,5 +49,7 @@ pub fn refusal_number(k: Refusal) -> u32
         Refusal::DamagedTicket => 40,
         Refusal::NoTicket => 41,
         Refusal::BufferShort => 42,
+        Refusal::Figures => 43,
+        Refusal::NoSize => 44,
     }
 }

@@ -4,6 +4,7 @@ ghost use Rattle.centralized_telescope.specs.AllCases.{AllCases};
 ghost use Rattle.centralized_telescope.specs.Demand3.{demand3, servedExample};
 ghost use Rattle.centralized_telescope.specs.Distinct.{distinctExactly};
 ghost use Rattle.centralized_telescope.specs.PlanClaims.{planSuffices, planNeeded, stepsNotPassed, ticketFits, tightExample};
+ghost use Rattle.centralized_telescope.specs.ProofSize.{sizeNeverFalls, sizeNeverRises};
 ghost use Rattle.centralized_telescope.specs.TicketClaims.{readsBack, writesBack, judgedAlike, ticketsExactly};
 
 // The claim on prove and verify at once, for every run that is served.
@@ -70,4 +71,15 @@ pub fn ticket_fits()
 // Elements whose ticket takes all the blocks that are planned for.
 pub fn tight_example()
     ensures { λ _. ⌜ tightExample ⌝ }
+{}
+
+// Of figures within the ranges: the proof size never falls when soundness, completeness or the lower bound grows, having none counting as the
+// greatest.
+pub fn size_never_falls()
+    ensures { λ _. ⌜ sizeNeverFalls ⌝ }
+{}
+
+// Nor does it rise when the set grows.
+pub fn size_never_rises()
+    ensures { λ _. ⌜ sizeNeverRises ⌝ }
 {}

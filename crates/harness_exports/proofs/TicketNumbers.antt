@@ -13,18 +13,18 @@ use Rattle.centralized_telescope.specs.declared.ticket.TicketProof.{TicketProof
 use Rattle.centralized_telescope.specs.declared.ticket.TicketProof.the-variants as proofAnswer
 use Rattle.harness_exports.specs.declared.BlocksNumbers.{BlocksNumbers}
 use Rattle.harness_exports.specs.declared.ReadNumbers.{ReadNumbers}
-use Rattle.harness_exports.specs.Exported.{inBlocksNumbers, blocksNumbers, withBlocks, exportedWriteTicket, inReadNumbers, readNumbers, withRead, exportedReadTicket}
+use Rattle.harness_exports.specs.Exported.{inBlocksNumbers, blocksNumbers, withFirst, exportedWriteTicket, inReadNumbers, readNumbers, withRead, exportedReadTicket}
 
 -- ---- the writer
 
 -- one store
-pub blocks-put : (out : List ℕ) (n : BlocksNumbers) → 1 ≤ length out → set out 0 (n .blocks) ≡ withBlocks n out
-unfolding withBlocks
-blocks-put out n h = rw (le-leb 1 (length out) h) (sets-eq (n .blocks ∷ []) out 0 (omega arith))
+pub first-put : (out : List ℕ) (v : ℕ) → 1 ≤ length out → set out 0 v ≡ withFirst v out
+unfolding withFirst
+first-put out v h = rw (le-leb 1 (length out) h) (sets-eq (v ∷ []) out 0 (omega arith))
 
-pub blocks-left : (out : List ℕ) (n : BlocksNumbers) → length out < 1 → out ≡ withBlocks n out
-unfolding withBlocks
-blocks-left out n h = rw (lt-leb 1 (length out) h)
+pub first-left : (out : List ℕ) (v : ℕ) → length out < 1 → out ≡ withFirst v out
+unfolding withFirst
+first-left out v h = rw (lt-leb 1 (length out) h)
 
 -- the numbers don't hang on what is lent
 same-blocks : (a : TicketBlocks) (blocks : List ℕ) → blocksNumbers a ≡ inBlocksNumbers (ticketWrittenBy a blocks)
@@ -38,15 +38,15 @@ same-ticket (blocksAnswer.Refused k) blocks = refl
 pub exported-written : (R S : ℕ) (bytes ends marks indexes blocks out : List ℕ) (a : TicketBlocks) (n : BlocksNumbers) (blocks′ out′ : List ℕ)
     → ticketWrittenBy a blocks′ ≡ ticketWritten R S bytes ends marks indexes blocks
     → n ≡ blocksNumbers a
-    → out′ ≡ withBlocks n out
+    → out′ ≡ withFirst (n .blocks) out
     → (n .number, blocks′, out′) ≡ exportedWriteTicket R S bytes ends marks indexes blocks out
 unfolding exportedWriteTicket
 exported-written R S bytes ends marks indexes blocks out a n blocks′ out′ e en eo =
     let r = ticketWrittenBy a blocks′ in
     let m : n ≡ inBlocksNumbers r = en ∙ same-blocks a blocks′ in
-    let here : _≡_ {A = ℕ × List ℕ × List ℕ} (n .number, blocks′, out′) (r .number, r .buffer, withBlocks (inBlocksNumbers r) out) =
+    let here : _≡_ {A = ℕ × List ℕ × List ℕ} (n .number, blocks′, out′) (r .number, r .buffer, withFirst (r .count) out) =
     rw (eo, m, ← same-ticket a blocks′) in
-    here ∙ ap (λ (q : TicketWritten). (q .number, q .buffer, withBlocks (inBlocksNumbers q) out)) e
+    here ∙ ap (λ (q : TicketWritten). (q .number, q .buffer, withFirst (q .count) out)) e
 
 -- ---- the reader
 

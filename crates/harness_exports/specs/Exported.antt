@@ -1,4 +1,5 @@
 -- What the harness's own calls answer.
+use mathlib.Core.Path.{_≡_}
 use mathlib.Core.Bool.{Bool, cond}
 use mathlib.Core.List.{List, [], _∷_}
 use Prim.Native.Nat.{ℕ, zero, suc}
@@ -9,18 +10,21 @@ use Rattle.sampling.specs.Hash.{hashed}
 use Rattle.centralized_telescope.specs.Distinct.{distinct}
 use Rattle.centralized_telescope.specs.Params.{smallCase}
 use Rattle.centralized_telescope.specs.Plan.{planned, plannedBy}
+use Rattle.centralized_telescope.specs.ProofSize.{SizeIs, sizeNumber}
 use Rattle.centralized_telescope.specs.Prover.{Proved, proved, provedBy}
 use Rattle.centralized_telescope.specs.Tickets.{TicketWritten, ticketWritten, ticketWrittenBy, TicketRead, ticketRead, ticketReadBy}
 use Rattle.centralized_telescope.specs.declared.params.Params.{Params}
 use Rattle.centralized_telescope.specs.declared.planning.Amounts.{Amounts}
 use Rattle.centralized_telescope.specs.declared.planning.Planned.{Planned}
 use Rattle.centralized_telescope.specs.declared.proof.ProofSearch.{ProofSearch}
+use Rattle.centralized_telescope.specs.declared.security.SmallestSize.{SmallestSize}
 use Rattle.centralized_telescope.specs.declared.ticket.TicketBlocks.{TicketBlocks}
 use Rattle.centralized_telescope.specs.declared.ticket.TicketProof.{TicketProof}
 use Rattle.harness_exports.specs.declared.Numbers.{Numbers}
 use Rattle.harness_exports.specs.declared.BlocksNumbers.{BlocksNumbers}
 use Rattle.harness_exports.specs.declared.ReadNumbers.{ReadNumbers}
 use Rattle.harness_exports.specs.declared.PlanNumbers.{PlanNumbers}
+use Rattle.harness_exports.specs.declared.SizeNumbers.{SizeNumbers}
 use Rattle.centralized_telescope.specs.declared.params.SmallSettings.{SmallSettings}
 
 -- the hash of m: its number, and the lent bytes afterwards; 8 where they aren't 32
@@ -81,15 +85,15 @@ inBlocksNumbers r = record { number = r .number; blocks = r .count }
 abbrev pub blocksNumbers : TicketBlocks → BlocksNumbers
 blocksNumbers a = inBlocksNumbers (ticketWrittenBy a [])
 
--- the number of blocks in the first lent number, where there is one
-unfoldable pub withBlocks : BlocksNumbers → List ℕ → List ℕ
-withBlocks n out = cond (leb 1 (length out)) (n .blocks ∷ drop 1 out) out
+-- a number in the first lent one, where there is one
+unfoldable pub withFirst : ℕ → List ℕ → List ℕ
+withFirst v out = cond (leb 1 (length out)) (v ∷ drop 1 out) out
 
 -- the number, and the lent blocks and numbers afterwards
 unfoldable pub exportedWriteTicket : ℕ → ℕ → List ℕ → List ℕ → List ℕ → List ℕ → List ℕ → List ℕ → ℕ × List ℕ × List ℕ
 exportedWriteTicket R S bytes ends marks indexes blocks out =
     let r : TicketWritten = ticketWritten R S bytes ends marks indexes blocks in
-    (r .number, r .buffer, withBlocks (inBlocksNumbers r) out)
+    (r .number, r .buffer, withFirst (r .count) out)
 
 -- the numbers of the reader's answer
 abbrev pub inReadNumbers : TicketRead → ReadNumbers
@@ -124,3 +128,13 @@ withAmounts a out = cond (leb 4 (length out)) (a .places ∷ a .«bin_table» �
 -- the number, and the lent numbers afterwards
 unfoldable pub exportedPlan : Params → ℕ → List ℕ → ℕ × List ℕ
 exportedPlan p longest out = (planned p longest .0, withAmounts (planned p longest .1) out)
+
+-- ---- the proof size
+
+-- the number and the size of an answer
+abbrev pub sizeNumbers : SmallestSize → SizeNumbers
+sizeNumbers a = record { number = sizeNumber a .0; size = sizeNumber a .1 }
+
+-- the number, and the lent numbers afterwards: the size, 0 with a refusal, in the first of them
+abbrev pub ExportedSize : ℕ → ℕ → ℕ → ℕ → List ℕ → ℕ → List ℕ → Type 0
+ExportedSize s c n f out number out′ = (u : ℕ) × SizeIs s c n f number u × (out′ ≡ withFirst u out)

@@ -3,7 +3,7 @@ ghost use mathlib.Core.Path.{_≡_};
 ghost use mathlib.Core.List.{_++_};
 ghost use lib.ListN.{length};
 ghost use Rattle.centralized_telescope.specs.Exports.{settingsOf};
-ghost use Rattle.harness_exports.specs.Exported.{exportedHash, six, exportedSmallCase, exportedDistinct, withoutProof, numbersOf, withCounters, exportedProve, blocksNumbers, withBlocks, exportedWriteTicket, readNumbers, withRead, exportedReadTicket, planNumbers, withAmounts, exportedPlan};
+ghost use Rattle.harness_exports.specs.Exported.{exportedHash, six, exportedSmallCase, exportedDistinct, withoutProof, numbersOf, withCounters, exportedProve, blocksNumbers, withFirst, exportedWriteTicket, readNumbers, withRead, exportedReadTicket, planNumbers, withAmounts, exportedPlan, sizeNumbers, ExportedSize};
 use centralized_telescope::Amounts;
 use centralized_telescope::Distinctness;
 use centralized_telescope::Params;
@@ -13,6 +13,7 @@ use centralized_telescope::RetryCounter;
 use centralized_telescope::SearchCounter;
 use centralized_telescope::SmallCase;
 use centralized_telescope::SmallSettings;
+use centralized_telescope::SmallestSize;
 use centralized_telescope::TicketBlocks;
 use centralized_telescope::TicketProof;
 use centralized_telescope::proof_search_number;
@@ -191,12 +192,12 @@ fn blocks_numbers(answer: TicketBlocks) -> BlocksNumbers
     }
 }
 
-// The number of blocks into the first lent number, if there is one.
-fn put_blocks(n: BlocksNumbers, out: &mut [u64])
-    ensures { λ r. ⌜ now (out .exit) ≡ withBlocks n (now (out .entry)) ⌝ }
+// A number into the first lent one, if there is one.
+fn put_first(v: u64, out: &mut [u64])
+    ensures { λ r. ⌜ now (out .exit) ≡ withFirst v (now (out .entry)) ⌝ }
 {
     if 1 <= out.len() {
-        out[0] = n.blocks;
+        out[0] = v;
     }
 }
 
@@ -224,7 +225,7 @@ pub extern "C" fn alba_write_ticket(
         ticket,
     );
     let n = blocks_numbers(answer);
-    put_blocks(n, out);
+    put_first(n.blocks, out);
     n.number
 }
 
@@ -354,4 +355,33 @@ pub extern "C" fn alba_plan(
     let n = plan_numbers(answer);
     put_amounts(n.amounts, out);
     n.number
+}
+
+// What the search for a proof size answers, in numbers.
+pub struct SizeNumbers {
+    pub number: u32,
+    pub size: u64,
+}
+
+fn size_numbers(answer: SmallestSize) -> SizeNumbers
+    ensures { λ r. ⌜ r ≡ sizeNumbers answer ⌝ }
+{
+    match answer {
+        SmallestSize::Size(size) => SizeNumbers { number: 0, size },
+        SmallestSize::Refused(k) => SizeNumbers {
+            number: refusal_number(k),
+            size: 0,
+        },
+    }
+}
+
+// The proof size of security figures: 0 or the number. `out` takes the size, 0 with a refusal, where it has a number or more.
+#[no_mangle]
+pub extern "C" fn alba_proof_size(s: u64, c: u64, n: u64, f: u64, out: &mut [u64]) -> u32
+    ensures { λ r. ⌜ ExportedSize s c n f (now (out .entry)) r (now (out .exit)) ⌝ }
+{
+    let answer = centralized_telescope::proof_size(s, c, n, f);
+    let numbers = size_numbers(answer);
+    put_first(numbers.size, out);
+    numbers.number
 }

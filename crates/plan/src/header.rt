@@ -1,4 +1,5 @@
 // The settings and the amounts as a C header.
+use arguments::Figures;
 use arguments::say_argument;
 use arguments::say_refused;
 use centralized_telescope::Amounts;
@@ -6,6 +7,7 @@ use centralized_telescope::Params;
 use centralized_telescope::Planned;
 use libc::STDOUT_FILENO;
 use text::say::say;
+use text::say::say_figure;
 use text::say::say_number;
 
 // The command that the header comes from: the program with its arguments, up to the last.
@@ -19,10 +21,26 @@ fn say_command(last: usize) {
     }
 }
 
-fn say_comment(longest: u64, last: usize) {
+// What the security figures asked for, where they were given.
+fn say_figures(f: Figures) {
+    if !f.known {
+        return;
+    }
+    say_figure(b" * For soundness ", f.soundness);
+    say_figure(b" and completeness ", f.completeness);
+    say_figure(b" against a lower bound of ", f.lower_bound);
+    say_figure(b" of ", f.set_size);
+    say(b", in the sense of the telescope's paper:\n");
+    say(
+        b" * the smallest proof size by the formula of the Rust's params.rs, log2 e cut to six decimals, and its small case.\n *\n",
+    );
+}
+
+fn say_comment(f: Figures, longest: u64, last: usize) {
     say(b"/*\n * Made by: ");
     say_command(last);
     say(b"\n *\n");
+    say_figures(f);
     say(
         b" * The telescope's settings, X being ALBA_X_HIGH * 2^64 + ALBA_X_LOW; and what to reserve for a run under them,\n",
     );
@@ -93,8 +111,8 @@ fn say_amounts(a: Amounts) {
     );
 }
 
-fn say_header(p: Params, a: Amounts, longest: u64, last: usize) {
-    say_comment(longest, last);
+fn say_header(p: Params, a: Amounts, f: Figures, longest: u64, last: usize) {
+    say_comment(f, longest, last);
     say(b"#ifndef ALBA_SETTINGS_H\n#define ALBA_SETTINGS_H\n\n");
     say(b"#include <stdint.h>\n\n");
     say_settings(p);
@@ -103,11 +121,12 @@ fn say_header(p: Params, a: Amounts, longest: u64, last: usize) {
     say(b"\n#endif\n");
 }
 
-// The header for settings and a longest data length, both read from the arguments up to `last`. What is refused gets only the refusal.
-pub fn say_planned(p: Params, longest: u64, last: usize) {
+// The header for settings, with the figures that they were made for, if any, and a longest data length, all from the arguments up to `last`.
+// What is refused gets only the refusal.
+pub fn say_planned(p: Params, f: Figures, longest: u64, last: usize) {
     let answer = centralized_telescope::plan(p, longest);
     match answer {
-        Planned::Amounts(a) => say_header(p, a, longest, last),
+        Planned::Amounts(a) => say_header(p, a, f, longest, last),
         Planned::Refused(k) => say_refused(k),
     }
 }

@@ -24,6 +24,10 @@ fn say_meaning(number: u64) {
         40 => say(b"the ticket's size is not whole blocks, or a block's check fails"),
         41 => say(b"what the ticket's blocks hold is no proof"),
         42 => say(b"more than there is room for"),
+        43 => say(
+            b"a security figure is outside its range: soundness 0 to 256, completeness 1 to 1024, set size 2 to 32768, lower bound 1 to set size - 1",
+        ),
+        44 => say(b"no proof size from 1 to 1024 is enough for these security figures"),
         _ => {}
     }
 }

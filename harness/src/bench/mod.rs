@@ -7,6 +7,7 @@ mod distinctness;
 mod measure;
 mod openssl;
 mod searches;
+mod sizes;
 mod steps;
 mod tickets;
 
@@ -33,6 +34,7 @@ pub fn run(part: Bench) -> Result<(), String> {
         Bench::Steps => steps::run(),
         Bench::Tickets => tickets::run(),
         Bench::Distinctness => distinctness::run(),
+        Bench::Sizes => sizes::run(),
         _ => whole(),
     }
 }
@@ -47,6 +49,7 @@ fn whole() -> Result<(), String> {
     searches::run()?;
     steps::run()?;
     tickets::run()?;
+    sizes::run()?;
     println!("\nThe ratio is of speeds: 1.00 is as fast, above it faster. Times are the thread's own; times and ratios are medians of {ROUNDS} rounds,");
     println!(
         "of {} for elements of 4,096 bytes, and of searches over their seeds; where nothing is found it is one search.",

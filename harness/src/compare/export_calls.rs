@@ -1,5 +1,5 @@
 //! Each export with arguments whose answer is known, made by the library and worked out by the Rust, the specification's table and words
-//! and the harness's own tickets.
+//! and the harness's own tickets and sizes.
 
 use super::parameters::Args;
 use super::searches::Outcome;
@@ -9,6 +9,8 @@ use crate::{
     ffi,
     ffi::{Listed, Rooms, Settings},
     list::{List, Written},
+    proof_size,
+    proof_size::Figures,
     rng::Rng,
     threshold::Threshold::{Alone, OfQ},
     threshold::{halves, whole},
@@ -32,7 +34,9 @@ pub struct Export {
 const SEED: u64 = 0x43_c389_a516;
 
 pub fn all() -> Result<Vec<Export>, String> {
-    Ok(vec![uniform(), bernoulli(), converter(), hash(), small(), distinct(), prove()?, verify()?, write_ticket(), read_ticket(), plan()])
+    let (samplers, tickets) = ([uniform(), bernoulli(), converter(), hash(), small()], [write_ticket(), read_ticket()]);
+    let searches = [distinct(), prove()?, verify()?];
+    Ok(samplers.into_iter().chain(searches).chain(tickets).chain([plan(), size()]).collect())
 }
 
 /// Parameters: h, n, out.
@@ -254,6 +258,23 @@ fn plan() -> Export {
         Ok(number)
     };
     Export { name: "alba_plan", args, answer: 0, ours, due }
+}
+
+/// Parameters: s, c, n, f, out. In another order the figures have another size or are out of range.
+fn size() -> Export {
+    let args = Args { numbers: vec![20, 50, 1000, 200], longs: vec![vec![7; 2]], ..Args::default() };
+    let ours = |args: &mut Args| ffi::proof_size(&figures_of(args), &mut args.longs[0][..]);
+    let due = |args: &mut Args| {
+        let size = proof_size::due(&figures_of(args));
+        args.longs[0][0] = size.unwrap_or(0);
+        Ok(size.err().unwrap_or(0))
+    };
+    Export { name: "alba_proof_size", args, answer: 0, ours, due }
+}
+
+fn figures_of(args: &Args) -> Figures {
+    let [s, c, n, f] = args.numbers[..] else { unreachable!("four numbers") };
+    Figures { s, c, n, f }
 }
 
 /// A list of which the Rust finds a proof that is wanted, and the proof.

@@ -15,6 +15,7 @@ mod parameters;
 pub mod plan;
 pub mod planned;
 pub mod planted;
+pub mod proof_size;
 pub mod prover_refusals;
 pub mod refusals;
 pub mod rules;
@@ -42,7 +43,7 @@ type Kind = fn(&mut Run, u64) -> Checked;
 
 pub fn run(options: &Compare) -> Checked {
     println!("seed 0x{:016x}, {} random cases", options.seed, options.cases);
-    let kinds: [(&str, Kind, u64); 19] = [
+    let kinds: [(&str, Kind, u64); 20] = [
         ("orders of parameters", parameters::run, 0),
         ("uniform", uniform::run, options.cases),
         ("threshold", threshold::run, options.cases),
@@ -62,6 +63,7 @@ pub fn run(options: &Compare) -> Checked {
         ("tickets", tickets::run, options.cases / 50),
         ("planning", plan::run, options.cases),
         ("planned runs", planned::run, options.cases / 200),
+        ("proof size", proof_size::run, options.cases / 40),
     ];
     let (mut counts, mut parts) = (Vec::new(), String::new());
     for (stream, (name, kind, cases)) in (0..).zip(kinds) {

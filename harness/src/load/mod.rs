@@ -13,8 +13,20 @@ use std::thread;
 use std::time::{Duration, Instant};
 
 /// The exported calls, as the tallies name them.
-const CALLS: [&str; 11] =
-    ["uniform", "Bernoulli", "threshold", "hash", "small case", "distinctness", "prove", "verify", "write ticket", "read ticket", "plan"];
+const CALLS: [&str; 12] = [
+    "uniform",
+    "Bernoulli",
+    "threshold",
+    "hash",
+    "small case",
+    "distinctness",
+    "prove",
+    "verify",
+    "write ticket",
+    "read ticket",
+    "plan",
+    "proof size",
+];
 /// How often a line says how far it is.
 const EVERY: Duration = Duration::from_secs(10);
 
@@ -25,7 +37,7 @@ struct Shared {
     end: u64,
     running: usize,
     tally: Tally,
-    /// How often each kind of list for distinctness and of what is planned came.
+    /// How often each kind of list for distinctness, of what is planned and of security figures came.
     seen: Tally,
     failed: Checked,
 }

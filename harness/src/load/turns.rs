@@ -6,8 +6,8 @@ use crate::compare::planned::{self, Planned};
 use crate::compare::planted::{NUMBERS, PLANTS, SHAPES};
 use crate::compare::rules::{BYTES, ELEMENTS, MOST};
 use crate::compare::{
-    bernoulli, distinct, faults, hash, plan, prover_refusals, refusals, searches, small_case, threshold, tickets, uniform, verdicts,
-    verifier_refusals,
+    bernoulli, distinct, faults, hash, plan, proof_size, prover_refusals, refusals, searches, small_case, threshold, tickets, uniform,
+    verdicts, verifier_refusals,
 };
 use crate::compare::{Answered, Checked};
 use crate::{ffi, ffi::Settings, list::List, rng::Rng, ticket::Proof};
@@ -16,12 +16,13 @@ use std::sync::{Mutex, PoisonError};
 type Turn = fn(&mut Block) -> Checked;
 
 /// Each with its name and how often it comes in its turn: so often that most turns take some hundredths or tenths of a second.
-const TURNS: [(&str, u64, Turn); 10] = [
+const TURNS: [(&str, u64, Turn); 11] = [
     ("samplers", 20_000, samplers),
     ("hash", 4000, hashes),
     ("small case", 10_000, small_cases),
     ("distinctness", 4, distinctness),
     ("planning", 4, planning),
+    ("proof size", 500, proof_size::any),
     ("searches", 4, search),
     ("bad input to prove", 8, bad_to_prove),
     ("random proofs", 32, random_proof),

@@ -17,3 +17,5 @@ refusal-number refusal.Completeness e = omega arith
 refusal-number refusal.DamagedTicket e = omega arith
 refusal-number refusal.NoTicket e = omega arith
 refusal-number refusal.BufferShort e = omega arith
+refusal-number refusal.Figures e = omega arith
+refusal-number refusal.NoSize e = omega arith

@@ -10,8 +10,8 @@ write-ticket-requires c κs = search needs
 blocks-numbers-requires : tie.Need-blocks-numbers-requires
 blocks-numbers-requires c κs = search needs
 
-put-blocks-requires : tie.Need-put-blocks-requires
-put-blocks-requires c κs = search needs
+put-first-requires : tie.Need-put-first-requires
+put-first-requires c κs = search needs
 
 same-length : tie.Need-same-length
 same-length c = search needs
@@ -23,7 +23,7 @@ returns : tie.Need-returns
 returns c =
     let z = c .before .before .before .before .before .before .before .before .before .before .before .before .before .before .before .args in
     exported-written (z .retry) (z .search) (z .«data» .now) (z .ends .now) (z .marks .now) (z .indexes .now) (z .«ticket» .now) (z .out .now) (c .before .before .before .before .before .before .before .write-ticket .result) _ _ _
-    (c .before .before .before .before .before .before .before .write-ticket .ensures) (c .before .before .before .before .blocks-numbers .ensures) (c .before .before .put-blocks .ensures)
+    (c .before .before .before .before .before .before .before .write-ticket .ensures) (c .before .before .before .before .blocks-numbers .ensures) (c .before .before .put-first .ensures)
 
 pub alba-write-ticket-spec : {M : Type 1} → statement M
 alba-write-ticket-spec =
@@ -31,7 +31,7 @@ alba-write-ticket-spec =
     (tie.spec
     write-ticket-requires
     blocks-numbers-requires
-    put-blocks-requires
+    put-first-requires
     same-length
     same-length-2
     returns)
