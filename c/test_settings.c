@@ -18,8 +18,9 @@ static_assert(ALBA_SEARCH_WIDTH <= ALBA_MAX_SEARCH_WIDTH, "search_width is lawfu
 static_assert(ALBA_DFS_BOUND <= ALBA_MAX_DFS_BOUND, "dfs_bound is lawful");
 static_assert(sizeof ALBA_X_HIGH == 8 && sizeof ALBA_X_LOW == 8, "X is two words of 64 bits");
 
-/* What the ticket of a proof of the longest elements holds: R, S and the count, then each element's mark, index, length and data. */
-#define BODY (8 + 8 + 4 + ALBA_PROOF_SIZE * (1 + 8 + 4 + LONGEST))
+/* What the ticket of a proof of the longest elements holds: the number of blocks, R, S and the number of elements, then each element's mark,
+ * index, length and data. */
+#define BODY (4 + 8 + 8 + 4 + ALBA_PROOF_SIZE * (1 + 8 + 4 + LONGEST))
 
 static_assert(ALBA_PLACES == ALBA_PROOF_SIZE, "a place for each element of a proof");
 static_assert(ALBA_BIN_TABLE == (ALBA_SET_SIZE + 1) + 2 * ALBA_SET_SIZE, "the starts, and the kept places");

@@ -42,6 +42,7 @@ extern "C" {
         ticket: *const u8, ticket_len: usize, data: *mut u8, data_len: usize, ends: *mut u32, ends_len: usize,
         marks: *mut u8, marks_len: usize, indexes: *mut u64, indexes_len: usize, out: *mut u64, out_len: usize,
     ) -> u32;
+    fn alba_stated_blocks(ticket: *const u8, ticket_len: usize) -> u64;
     fn alba_plan(
         set_size: u64, proof_size: u64, max_retries: u64, search_width: u64, dfs_bound: u64, x_high: u64, x_low: u64, longest: u64,
         out: *mut u64, out_len: usize,
@@ -273,6 +274,13 @@ pub fn read_ticket(
             ticket, ticket_len, data, data_len, ends, ends_len, marks, marks_len, indexes, indexes_len, out, out_len,
         )
     }
+}
+
+/// The number of blocks that a ticket states; 0 without a whole block.
+pub fn stated_blocks(ticket: Lent) -> u64 {
+    let (ticket, ticket_len) = parts(ticket);
+    // SAFETY: the pointer is valid for reads of its length.
+    unsafe { alba_stated_blocks(ticket, ticket_len) }
 }
 
 /// 0, or the number of the refusal. If `out` has four numbers or more, the first four take the places, the numbers of the bin table, the

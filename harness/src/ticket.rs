@@ -1,5 +1,6 @@
-//! Tickets by the words of the change request alone, apart from the library: what a ticket is, what its writer and its reader answer, and
-//! what they leave in what they are lent. The library is compared with this, and measured against it.
+//! Tickets by the words of the change requests alone, apart from the library: what a ticket is, what its writer and its reader answer, and
+//! what they leave in what they are lent. The library is compared with this, and measured against it. The first layout, which had no number
+//! of blocks, is here as far as writing goes.
 
 use crate::{
     compare::rules::{self, BYTES, ELEMENTS},
@@ -11,8 +12,9 @@ use sha2::{Digest, Sha256};
 /// A block, and its part before the check.
 pub const BLOCK: usize = 512;
 pub const BODY: usize = 504;
-/// R, S and the number of elements.
-pub const HEAD: usize = 8 + 8 + 4;
+/// The number of blocks; with it R, S and the number of elements.
+pub const STATED: usize = 4;
+pub const HEAD: usize = STATED + 8 + 8 + 4;
 
 /// What a ticket carries.
 #[derive(Clone, Debug, Default)]
@@ -82,9 +84,10 @@ impl Filling<'_> {
     }
 }
 
-/// The ticket in just as many blocks as it takes.
-fn put_ticket(retry: u64, search: u64, list: &List, blocks: &mut [u8]) {
+/// A ticket in just as many blocks as it takes, with these bytes before R.
+fn put_ticket(before: &[u8], retry: u64, search: u64, list: &List, blocks: &mut [u8]) {
     let mut bodies = Filling { blocks, at: 0 };
+    bodies.put(before);
     bodies.put(&retry.to_be_bytes());
     bodies.put(&search.to_be_bytes());
     bodies.put(&(list.len() as u32).to_be_bytes());
@@ -100,8 +103,21 @@ fn put_ticket(retry: u64, search: u64, list: &List, blocks: &mut [u8]) {
 
 /// The ticket of a list that is lawful or only too large.
 pub fn of(proof: &Proof) -> Vec<u8> {
-    let mut blocks = vec![0; count_blocks(&proof.list) * BLOCK];
-    put_ticket(proof.retry, proof.search, &proof.list, &mut blocks);
+    let count = count_blocks(&proof.list);
+    let mut blocks = vec![0; count * BLOCK];
+    put_ticket(&(count as u32).to_be_bytes(), proof.retry, proof.search, &proof.list, &mut blocks);
+    blocks
+}
+
+/// How many blocks that took in the first layout.
+pub fn first_layout_blocks(list: &List) -> usize {
+    (content_len(list) - STATED).div_ceil(BODY)
+}
+
+/// The ticket in the first layout: nothing stood before R.
+pub fn in_first_layout(proof: &Proof) -> Vec<u8> {
+    let mut blocks = vec![0; first_layout_blocks(&proof.list) * BLOCK];
+    put_ticket(&[], proof.retry, proof.search, &proof.list, &mut blocks);
     blocks
 }
 
@@ -110,7 +126,7 @@ pub fn write(retry: u64, search: u64, list: &List, out: &mut [u8]) -> Result<usi
     rules::list(list)?;
     let count = count_blocks(list);
     let blocks = out.get_mut(..count * BLOCK).ok_or(ffi::BUFFER_SHORT)?;
-    put_ticket(retry, search, list, blocks);
+    put_ticket(&(count as u32).to_be_bytes(), retry, search, list, blocks);
     Ok(count)
 }
 
@@ -153,6 +169,11 @@ impl Bodies<'_> {
         Some(bytes)
     }
 
+    /// A number of four bytes.
+    fn take_number(&mut self) -> Option<u32> {
+        self.take().map(u32::from_be_bytes)
+    }
+
     /// What stands before an element's data: its index, and how many data bytes follow.
     fn take_element(&mut self) -> Option<(Option<u64>, usize)> {
         let index = match self.take()? {
@@ -160,7 +181,7 @@ impl Bodies<'_> {
             [1] => Some(u64::from_be_bytes(self.take()?)),
             _ => return None,
         };
-        let len = u32::from_be_bytes(self.take()?) as usize;
+        let len = self.take_number()? as usize;
         (len <= BYTES).then_some((index, len))
     }
 }
@@ -174,11 +195,19 @@ pub struct Told {
     pub len: usize,
 }
 
-/// What the bodies of whole blocks hold, if it is a proof within the limits and less than a body of zeros follows.
+/// The number that the first four bytes of the bodies are; 0 without a whole block.
+pub fn stated_blocks(bytes: &[u8]) -> u64 {
+    Bodies { blocks: bytes, at: 0 }.take_number().map_or(0, u64::from)
+}
+
+/// What the bodies of whole blocks hold, if it is the number of these blocks, a proof within the limits, and less than a body of zeros.
 fn laid_out(ticket: &[u8]) -> Option<Told> {
     let mut bodies = Bodies { blocks: ticket, at: 0 };
+    if bodies.take_number()? as usize != ticket.len() / BLOCK {
+        return None;
+    }
     let (retry, search) = (u64::from_be_bytes(bodies.take()?), u64::from_be_bytes(bodies.take()?));
-    let count = u32::from_be_bytes(bodies.take()?) as usize;
+    let count = bodies.take_number()? as usize;
     if count > ELEMENTS {
         return None;
     }
@@ -261,26 +290,69 @@ mod tests {
     fn the_layout_byte_by_byte() {
         let ticket = of(&sample());
         let mut body = [0; 504];
-        body[7] = 3;
-        body[8..16].copy_from_slice(&[0, 0, 0, 1, 0, 0, 0, 2]);
-        body[19] = 2;
-        body[20..35].copy_from_slice(&[1, 1, 2, 3, 4, 5, 6, 7, 8, 0, 0, 0, 2, b'a', b'b']);
+        body[3] = 1;
+        body[11] = 3;
+        body[12..20].copy_from_slice(&[0, 0, 0, 1, 0, 0, 0, 2]);
+        body[23] = 2;
+        body[24..39].copy_from_slice(&[1, 1, 2, 3, 4, 5, 6, 7, 8, 0, 0, 0, 2, b'a', b'b']);
         // The second element is five zeros, and the rest is filling.
         assert_eq!(ticket[..504], body);
         // From `sha256sum` over these 504 bytes.
-        assert_eq!(ticket[504..], [0x26, 0x08, 0x99, 0x73, 0x55, 0xce, 0xc4, 0x27]);
+        assert_eq!(ticket[504..], [0x4d, 0x8a, 0x27, 0x75, 0x0e, 0xb2, 0x95, 0xf1]);
+        // In the first layout, likewise: the same from R on.
+        let first = in_first_layout(&sample());
+        assert_eq!((&first[..500], &first[500..504]), (&body[4..], &[0; 4][..]));
+        assert_eq!(first[504..], [0x26, 0x08, 0x99, 0x73, 0x55, 0xce, 0xc4, 0x27]);
     }
 
     #[test]
     fn as_few_blocks_as_hold_the_content() {
-        // 20 bytes, then 5 or 13, then the data.
+        // 24 bytes, then 5 or 13, then the data.
         for (len, index, blocks) in
-            [(0, None, 1), (479, None, 1), (480, None, 2), (471, Some(0), 1), (472, Some(0), 2), (983, None, 2), (984, None, 3)]
+            [(0, None, 1), (475, None, 1), (476, None, 2), (467, Some(0), 1), (468, Some(0), 2), (979, None, 2), (980, None, 3)]
         {
-            assert_eq!(count_blocks(&of_one(len, index).list), blocks, "{len}");
-            assert_eq!(tell(&of(&of_one(len, index))), Ok(Told { retry: 1, search: 1, count: 1, len }));
+            let ticket = of(&of_one(len, index));
+            assert_eq!((count_blocks(&of_one(len, index).list), stated_blocks(&ticket)), (blocks, blocks as u64), "{len}");
+            assert_eq!(tell(&ticket), Ok(Told { retry: 1, search: 1, count: 1, len }));
         }
         assert_eq!(count_blocks(&List::default()), 1);
+        // 20 in the first layout.
+        let first = |len| first_layout_blocks(&of_one(len, None).list);
+        assert_eq!((first(479), first(480)), (1, 2));
+    }
+
+    /// Each number but that of the blocks present is refused, and so are blocks more or less.
+    #[test]
+    fn the_number_of_blocks() {
+        for (len, blocks) in [(0, 1u32), (475, 1), (476, 2), (1200, 3)] {
+            let proof = of_one(len, None);
+            for number in (0..600).chain([1 << 8 | blocks, 1 << 31, 1 << 31 | blocks, blocks.swap_bytes(), 512 * blocks, u32::MAX]) {
+                let due = if number == blocks { Ok(len) } else { Err(41) };
+                assert_eq!(with(&proof, 0, &number.to_be_bytes()).map(|told| told.len), due, "{number}");
+            }
+            let ticket = of(&proof);
+            assert_eq!(tell(&ticket[..ticket.len() - 512]), Err(41));
+            assert_eq!(tell(&[&ticket[..], &ticket[..512]].concat()), Err(41));
+            assert_eq!(stated_blocks(&ticket[..511]), 0);
+            assert_eq!((stated_blocks(&ticket[..512]), stated_blocks(&[&ticket[..], &[9]].concat())), (blocks.into(), blocks.into()));
+        }
+        assert_eq!(stated_blocks(&[]), 0);
+    }
+
+    /// A ticket of the first layout is one of this if it happens to be one: of R at least 2^32, and then of another proof.
+    #[test]
+    fn the_first_layout_is_not_read_as_such() {
+        let first = |retry, search, list: &List| tell(&in_first_layout(&Proof { retry, search, list: list.clone() }));
+        for list in [List::default(), sample().list, faults::long_list(3, 0), faults::long_list(9, 400)] {
+            for retry in [0, 1, 1 << 31, u64::from(u32::MAX)] {
+                assert_eq!((first(retry, 0, &list), first(retry, u64::MAX, &list)), (Err(41), Err(41)));
+            }
+        }
+        // 2^32 and 0 as R and S, and no elements: the bytes are those of 0 and 0.
+        assert_eq!(in_first_layout(&Proof { retry: 1 << 32, ..Proof::default() }), of(&Proof::default()));
+        let none = List::default();
+        assert_eq!(first(1 << 32 | 2, 3 << 32 | 4, &none), Ok(Told { retry: 2 << 32 | 3, search: 4 << 32, count: 0, len: 0 }));
+        assert_eq!((first(2 << 32, 0, &none), first(u64::MAX, 0, &none), first(1 << 32, 0, &sample().list)), (Err(41), Err(41), Err(41)));
     }
 
     #[test]
@@ -313,19 +385,21 @@ mod tests {
     #[test]
     fn what_is_outside_the_layout_is_41() {
         let proof = sample();
-        assert_eq!(with(&proof, 20, &[2]), Err(41));
-        assert_eq!(with(&proof, 16, &[0, 0, 0, 1]), Ok(Told { count: 1, len: 2, retry: 3, search: 0x1_0000_0002 }));
+        assert_eq!(with(&proof, 24, &[2]), Err(41));
+        assert_eq!(with(&proof, 20, &[0, 0, 0, 1]), Ok(Told { count: 1, len: 2, retry: 3, search: 0x1_0000_0002 }));
         // Zeros can be one element more, if there are enough of them, and anything else can't be filling.
-        // After the first element there are 469, and one without index and data takes five.
-        assert_eq!(with(&proof, 16, &[0, 0, 0, 94]).map(|told| told.count), Ok(94));
-        assert_eq!(with(&proof, 16, &[0, 0, 0, 95]), Err(41));
+        // After the first element there are 465, and one without index and data takes five.
+        assert_eq!(with(&proof, 20, &[0, 0, 0, 94]).map(|told| told.count), Ok(94));
+        assert_eq!(with(&proof, 20, &[0, 0, 0, 95]), Err(41));
         assert_eq!(with(&proof, 503, &[1]), Err(41));
-        assert_eq!(with(&proof, 29, &[0, 0, 16, 0]), Err(41));
+        assert_eq!(with(&proof, 33, &[0, 0, 16, 0]), Err(41));
         // The filling can be data; one byte more isn't there.
-        assert_eq!(with(&of_one(9, None), 21, &[0, 0, 1, 223]).map(|told| told.len), Ok(479));
-        assert_eq!(with(&of_one(9, None), 21, &[0, 0, 1, 224]), Err(41));
+        assert_eq!(with(&of_one(9, None), 25, &[0, 0, 1, 219]).map(|told| told.len), Ok(475));
+        assert_eq!(with(&of_one(9, None), 25, &[0, 0, 1, 220]), Err(41));
+        // A block of filling alone, though it is counted.
         let mut one_more = of(&proof);
         one_more.extend([0; 512]);
+        one_more[3] = 2;
         seal(&mut one_more);
         assert_eq!(tell(&one_more), Err(41));
         assert_eq!(tell(&of(&of_one(4096, Some(1)))).map(|told| told.len), Ok(4096));

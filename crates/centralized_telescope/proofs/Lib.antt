@@ -14,6 +14,7 @@ mod ProverDemand
 mod DemandHolds
 mod CasesHold
 mod TicketsHold
+mod FirstLayoutHolds
 mod PlanHolds
 -- round.rt
 mod RoundHashes

@@ -52,7 +52,7 @@ module _ (p : Params) (longest : ℕ) (a : Amounts) (G : Given p longest a) wher
   unfolding amounts
   steps-are = ap (λ (m : Amounts). m .«most_steps») (G .same)
 
-  blocks-are : a .«ticket_blocks» ≡ blockCount (20 + p .«proof_size» * (13 + longest))
+  blocks-are : a .«ticket_blocks» ≡ blockCount (24 + p .«proof_size» * (13 + longest))
   unfolding amounts
   blocks-are = ap (λ (m : Amounts). m .«ticket_blocks») (G .same)
 
@@ -258,12 +258,12 @@ module _ (p : Params) (bytes ends marks indexes places table : List ℕ) (n : pr
         held-is : held ≡ length (content (r .retry) (r .search) (map (elementAt all) own))
         held-is = ap (λ (es : List Element). length (content (r .retry) (r .search) es)) same-elements
 
-        held-most : held ≤ 20 + p .«proof_size» * (13 + longest)
+        held-most : held ≤ 24 + p .«proof_size» * (13 + longest)
         held-most =
-            rw held-is (subst (λ (k : ℕ). length (content (r .retry) (r .search) (map (elementAt all) own)) ≤ 20 + k * (13 + longest)) elements-count (content-most longest (r .retry) (r .search) (map (elementAt all) own) own-short))
+            rw held-is (subst (λ (k : ℕ). length (content (r .retry) (r .search) (map (elementAt all) own)) ≤ 24 + k * (13 + longest)) elements-count (content-most longest (r .retry) (r .search) (map (elementAt all) own) own-short))
 
         blocks-most : blockCount held ≤ a .«ticket_blocks»
-        blocks-most = rw (blocks-are p longest a G) (blocks-rise held (20 + p .«proof_size» * (13 + longest)) held-most)
+        blocks-most = rw (blocks-are p longest a G) (blocks-rise held (24 + p .«proof_size» * (13 + longest)) held-most)
 
         made : (ticketWritten (r .retry) (r .search) d (part (w .ends)) (part (w .marks)) (part (w .indexes)) out .number ≡ 0)
             × (ticketWritten (r .retry) (r .search) d (part (w .ends)) (part (w .marks)) (part (w .indexes)) out .count ≡ blockCount held)

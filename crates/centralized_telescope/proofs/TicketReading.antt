@@ -13,13 +13,14 @@ use lib.Seq.{length-take-le, drop-append-le, take-all, take-at, take-suc, drop-c
 use Rattle.sampling.specs.BigEndian.{bigEndian}
 use Rattle.sampling.specs.laws.BigEndianLaws.{bigEndian-append}
 use Rattle.centralized_telescope.specs.Lists.{someOf}
-use Rattle.centralized_telescope.specs.Blocks.{bodiesOf}
+use Rattle.centralized_telescope.specs.Blocks.{bodies, bodiesOf}
 use Rattle.centralized_telescope.specs.Elements.{Element}
 use Rattle.centralized_telescope.specs.ProofList.{listOver}
-use Rattle.centralized_telescope.specs.Tickets.{elementIn, elementsIn, elementsPart}
+use Rattle.centralized_telescope.specs.Tickets.{blocksIn, elementIn, elementsIn, elementsPart}
 use Rattle.centralized_telescope.specs.declared.ticket.HeadRead.{HeadRead}
 use Rattle.centralized_telescope.specs.inner.TicketReading.{listed, markIn, headSize, sizeIn, laidOut, HeadIs, allLaidOut, layoutSize, dataSize, LayoutIs, fillingRight}
 use Rattle.centralized_telescope.specs.laws.TestLaws.{refuted, both}
+use Rattle.centralized_telescope.specs.laws.BytesLaws.{number-front}
 use Rattle.centralized_telescope.specs.laws.BlocksLaws.{length-bodies}
 use Rattle.centralized_telescope.specs.laws.TicketsLaws.{ElementLaid, element-laid, elements-count, elements-more}
 use Rattle.centralized_telescope.proofs.ProofWriting.{written-more}
@@ -34,16 +35,15 @@ left-of-bodies t at = length-drop at (bodiesOf t) ∙ ap (λ (n : ℕ). n - at) 
 
 -- ---- a number that was copied to the front of an array
 
-number-front : (k : ℕ) (s rest : List ℕ) → k ≤ length s → bigEndian k (take k s ++ rest) ≡ bigEndian k s
-number-front k s rest h =
-    let l = length-take-le k s h in
-    bigEndian-append k (take k s) rest (omega arith)
-    ∙ sym (bigEndian-append k (take k s) (drop k s) (omega arith))
-    ∙ ap (bigEndian k) (take-append-drop k s)
-
 pub field-copied : (t : List ℕ) (at k : ℕ) (z r : List ℕ) → at + k ≤ 504 * (length t / 512)
     → r ≡ take 0 z ++ (take k (drop at (bodiesOf t)) ++ drop (0 + k) z) → bigEndian k (drop 0 r) ≡ bigEndian k (drop at (bodiesOf t))
-field-copied t at k z r h e = rw e (number-front k (drop at (bodiesOf t)) (drop (0 + k) z) (omega (arith, left-of-bodies t at)))
+field-copied t at k z r h e = rw e (number-front k k (drop at (bodiesOf t)) (drop (0 + k) z) (omega arith) (omega (arith, left-of-bodies t at)))
+
+-- ---- the number of blocks: less than one block states none
+
+pub none-stated : (t : List ℕ) → length t < 512 → 0 ≡ blocksIn (bodiesOf t)
+unfolding bodies bigEndian
+none-stated t h = let e : length t / 512 ≡ 0 = omega arith in rw e
 
 -- ---- the head of the element at a place
 
@@ -95,10 +95,10 @@ pub record Passed (t : List ℕ) (count i at used : ℕ) : Type 0 where
   pub within : at ≤ 504 * (length t / 512)
   pub small : used ≤ 4096 * i
   pub laid : allLaidOut count (elementsPart (bodiesOf t)) ≡ allLaidOut (count - i) (drop at (bodiesOf t))
-  pub ends-at : at + layoutSize (count - i) (drop at (bodiesOf t)) ≡ 20 + layoutSize count (elementsPart (bodiesOf t))
+  pub ends-at : at + layoutSize (count - i) (drop at (bodiesOf t)) ≡ 24 + layoutSize count (elementsPart (bodiesOf t))
   pub uses : used + dataSize (count - i) (drop at (bodiesOf t)) ≡ dataSize count (elementsPart (bodiesOf t))
 
-pub none-passed : (t : List ℕ) (count : ℕ) → 20 ≤ 504 * (length t / 512) → Passed t count 0 20 0
+pub none-passed : (t : List ℕ) (count : ℕ) → 24 ≤ 504 * (length t / 512) → Passed t count 0 24 0
 none-passed t count h =
     let e : count - 0 ≡ count = omega arith in
     record { most = omega arith; within = h; small = omega arith; laid = rw e; ends-at = rw e; uses = rw e (omega arith) }
@@ -164,7 +164,7 @@ elementsOf t count = elementsIn count (elementsPart (bodiesOf t))
 abbrev pub Rest : List ℕ → ℕ → ℕ → ℕ → Type 0
 Rest t count i at = elementsIn (count - i) (drop at (bodiesOf t)) ≡ drop i (elementsOf t count)
 
-pub none-read : (t : List ℕ) (count : ℕ) → Rest t count 0 20
+pub none-read : (t : List ℕ) (count : ℕ) → Rest t count 0 24
 none-read t count = let e : count - 0 ≡ count = omega arith in rw e
 
 module _ (t : List ℕ) (count i at : ℕ) (h : i < count) (F : Rest t count i at) (r : HeadRead) (R : HeadIs r (drop at (bodiesOf t))) where

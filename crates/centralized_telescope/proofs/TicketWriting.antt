@@ -13,6 +13,7 @@ use Rattle.sampling.specs.BigEndian.{bytesOf}
 use Rattle.sampling.specs.laws.BigEndianLaws.{length-bytesOf}
 use Rattle.centralized_telescope.specs.Elements.{Element, elementAt, elements, indexOf, markOf, numberOf, listCheck}
 use Rattle.centralized_telescope.specs.Lists.{over}
+use Rattle.centralized_telescope.specs.Blocks.{blockCount}
 use Rattle.centralized_telescope.specs.Tickets.{headBytes, elementBytes, elementsBytes, content}
 use Rattle.centralized_telescope.specs.inner.ListReading.{dataAt, indexAt}
 use Rattle.centralized_telescope.specs.laws.ElementsLaws.{data-there, index-there, length-elements, data-short}
@@ -204,15 +205,18 @@ pub length-headOf : (R S n : ℕ) → length (headOf R S n) ≡ 20
 length-headOf R S n =
     omega (arith, length-append (bytesOf 8 R) (bytesOf 8 S ++ bytesOf 4 n), length-append (bytesOf 8 S) (bytesOf 4 n), length-bytesOf 8 R, length-bytesOf 8 S, length-bytesOf 4 n)
 
-module _ (R S n : ℕ) (es : List Element) (N : length es ≡ n) where
-  content-is : content R S es ≡ headOf R S n ++ elementsBytes es
+module _ (k R S n : ℕ) (es : List Element) (K : k ≡ blockCount (24 + length (elementsBytes es))) (N : length es ≡ n) where
+  content-is : content R S es ≡ (bytesOf 4 k ++ headOf R S n) ++ elementsBytes es
   unfolding content
-  content-is = rw (N, append-assoc (bytesOf 8 R) (bytesOf 8 S ++ bytesOf 4 n), append-assoc (bytesOf 8 S) (bytesOf 4 n))
+  content-is = rw (← K, N) (simp append-assoc)
 
-  -- the head, then the elements behind it
-  pub content-put : (lent head out out′ : List ℕ) → head ≡ headOf R S n → out ≡ take 0 lent ++ (head ++ drop (0 + length head) lent)
-      → out′ ≡ over (take 20 out ++ elementsBytes es) out → out′ ≡ over (content R S es) lent
-  content-put lent head out out′ H C E =
-      let o : out ≡ over head lent = put [] head lent 0 lent out refl refl C in
-      let l : length head ≡ 20 = ap length H ∙ length-headOf R S n in
-      E ∙ rw (o, take-over 20 head lent l, over-over head (elementsBytes es) lent, H, ← content-is)
+  -- the number of blocks, the head behind it, then the elements
+  pub content-put : (lent stated head out out′ : List ℕ) → stated ≡ bytesOf 4 k → head ≡ headOf R S n
+      → out ≡ take 4 (stated ++ drop 4 lent) ++ (head ++ drop (4 + length head) (stated ++ drop 4 lent))
+      → out′ ≡ over (take 24 out ++ elementsBytes es) out → out′ ≡ over (content R S es) lent
+  content-put lent stated head out out′ B H C E =
+      let four : length stated ≡ 4 = ap length B ∙ length-bytesOf 4 k in
+      let first : stated ++ drop 4 lent ≡ over stated lent = rw four in
+      let both-put : out ≡ over (stated ++ head) lent = put stated head lent 4 (stated ++ drop 4 lent) out (sym four) first C in
+      let l : length (stated ++ head) ≡ 24 = omega (arith, length-append stated head, four, ap length H, length-headOf R S n) in
+      E ∙ rw (both-put, take-over 24 (stated ++ head) lent l, over-over (stated ++ head) (elementsBytes es) lent, B, H, ← content-is)

@@ -1,28 +1,31 @@
--- The four claims on tickets.
+-- The five claims on tickets.
 use mathlib.Core.Path.{_≡_, refl, sym, ap, _∙_}
 use mathlib.Core.Bool.{Bool, true, false, cond}
+use mathlib.Core.Logic.{⊎-elim}
 use mathlib.Core.List.{List, [], _∷_, _++_}
 use mathlib.Core.Option.{Option, none, some}
 use Prim.Native.Nat.{ℕ, zero, suc, _-_, _*_, _/_, _^_, _≤_, _<_}
 use native.Mathlib.Omega.{arith}
 use borrow.Author.Tests.{eq-eqb, ltb-false, le-ltb}
 use lib.Dec.{ltb}
-use lib.ListN.{length, drop, getD, length-map, length-take}
-use Rattle.centralized_telescope.specs.laws.TestLaws.{not-both, refuted, confirmed, neither}
+use lib.ListN.{length, take, drop, getD, length-map, length-take}
+use Rattle.sampling.specs.BigEndian.{bigEndian}
+use Rattle.centralized_telescope.specs.laws.TestLaws.{not-both, refuted, confirmed, neither, lt-or-le}
 use Rattle.centralized_telescope.specs.laws.ListsLaws.{take-over}
 use Rattle.centralized_telescope.specs.laws.ElementsLaws.{accepted, length-elements, few-elements}
-use Rattle.centralized_telescope.specs.laws.ProofListLaws.{Short, length-ends, accepted-again, elements-again}
-use Rattle.centralized_telescope.specs.laws.BytesLaws.{Bytes, each-bytes}
-use Rattle.centralized_telescope.specs.laws.BlocksLaws.{length-blocks, blocks-undamaged}
-use Rattle.centralized_telescope.specs.laws.TicketsReadLaws.{none-over, number-small, ticket-reads, is-ticket, ticket-said, ticket-is}
+use Rattle.centralized_telescope.specs.laws.ProofListLaws.{length-ends, accepted-again, elements-again}
+use Rattle.centralized_telescope.specs.laws.BytesLaws.{Bytes, each-bytes, front-number}
+use Rattle.centralized_telescope.specs.laws.BlocksLaws.{length-blocks, undamaged, blocks-undamaged}
+use Rattle.centralized_telescope.specs.laws.TicketsReadLaws.{none-over, none-long-short, number-small, ticket-reads, is-ticket, ticket-said, ticket-is, ticket-length, stated-first, ticket-stated, ticket-empty, ticket-miscounted}
 use Rattle.centralized_telescope.specs.declared.params.Params.{Params}
-use Rattle.centralized_telescope.specs.Lists.{Each, someOf, firstNumber}
+use Rattle.centralized_telescope.specs.Lists.{Each, firstNumber}
 use Rattle.centralized_telescope.specs.Elements.{Element, markOf, numberOf, elementsFrom, elements, dataLong, listCheck}
 use Rattle.centralized_telescope.specs.Verifier.{verdict}
 use Rattle.centralized_telescope.specs.ProofList.{joined, endsFrom, marksOf, indexesOf, buffersShort}
 use Rattle.centralized_telescope.specs.Blocks.{blockCount, blocks, bodiesOf, damaged}
-use Rattle.centralized_telescope.specs.Tickets.{content, ticket, ElementFits, ProofFits, IsTicket, retryIn, searchIn, proofIn, isTicket, TicketWritten, ticketWriteRefusal, ticketWritten, TicketRead, readOut, ticketReadRefusal, ticketRead}
-use Rattle.centralized_telescope.specs.TicketClaims.{blocksOf, ofRead, HasRoom, carried, CanCarry, ReadBack, readsBack, WrittenBack, writtenAgain, writesBack, judgedAgain, judgedAlike, TicketOrNot, OneProof, ticketsExactly}
+use Rattle.centralized_telescope.specs.Tickets.{content, ticket, ElementFits, ProofFits, IsTicket, blocksIn, retryIn, searchIn, proofIn, isTicket, TicketWritten, ticketWriteRefusal, ticketWritten, TicketRead, readOut, ticketReadRefusal, ticketRead}
+use Rattle.centralized_telescope.specs.TicketClaims.{blocksOf, ofRead, HasRoom, carried, CanCarry, ReadBack, readsBack, WrittenBack, writtenAgain, writesBack, judgedAgain, judgedAlike, TicketOrNot, OneProof, ticketsExactly, blocksCounted}
+use Rattle.centralized_telescope.proofs.TicketAnswers.{no-ticket}
 
 -- ---- the elements of an accepted list whose indexes are of 64 bits
 
@@ -36,13 +39,6 @@ fit-from from d (k ∷ n) (j ∷ m) (v ∷ x) X l =
       (omega (arith, length-take (k - from) (drop from d), ltb-false 4096 (k - from) (h .0)), number-small j v (2 ^ 64) (X .0)),
       fit-from k d n m x (X .1) (h .1),
     )
-
-none-long-short : (es : List Element) → someOf (λ (e : Element). ltb 4096 (length (e .bytes))) es ≡ false → Each Short es
-unfolding Each someOf
-none-long-short [] h = tt
-none-long-short (e ∷ es) h =
-    let k = neither (ltb 4096 (length (e .bytes))) h in
-    (ltb-false 4096 (length (e .bytes)) (k .0), none-long-short es (k .1))
 
 -- ---- what the writer wrote
 
@@ -315,3 +311,26 @@ one-proof R S es R′ S′ es′ f g q =
 
 pub tickets-exactly : ticketsExactly
 tickets-exactly = (ticket-or-not, one-proof)
+
+-- ---- the number of blocks
+
+miscounted : (t : List ℕ) → damaged t ≡ false → (bigEndian 4 t ≡ length t / 512 → ⊥) → isTicket t ≡ false
+miscounted t D f =
+    ⊎-elim
+    (λ s. ticket-empty t (omega (arith, undamaged t D .size)))
+    (λ h. ticket-miscounted t (λ e. f (sym (stated-first t h) ∙ e)))
+    (lt-or-le (length t) 512)
+
+module _ (t : List ℕ) (k : IsTicket t) where
+  first-block : 512 ≤ length t
+  first-block = rw (k .4) (ticket-length (k .0) (k .1) (k .2))
+
+  counted : length t ≡ 512 * bigEndian 4 t
+  counted =
+      omega (arith, undamaged t (whole t [] [] [] [] k) .size, stated-first t first-block, ticket-stated t (said t [] [] [] [] k))
+
+  stated-by-front : (n : ℕ) → 512 ≤ n → blocksIn (bodiesOf (take n t)) ≡ bigEndian 4 t
+  stated-by-front n h = stated-first (take n t) (omega (arith, length-take n t, first-block)) ∙ front-number 4 n t (omega arith) (omega (arith, first-block))
+
+pub blocks-counted : blocksCounted
+blocks-counted = (counted, λ t n k. stated-by-front t k n, λ t d n m x D f. sym (no-ticket t d n m x D (miscounted t D f)))

@@ -16,6 +16,7 @@ pub mod ProofList
 pub mod Blocks
 pub mod Tickets
 pub mod TicketClaims
+pub mod FirstLayout
 pub mod Demand3
 pub mod Plan
 pub mod PlanClaims

@@ -12,13 +12,13 @@ use Rattle.centralized_telescope.specs.Refusals.{refusalNumber}
 use Rattle.centralized_telescope.specs.Params.{checked}
 use Rattle.centralized_telescope.specs.Blocks.{blockCount}
 
--- 02, N5, the four amounts: places, bin-table numbers, the step count, and the blocks, 504 bytes each, rounded up
+-- 02, N5, the four amounts: places, bin-table numbers, the step count, and the blocks, 504 bytes each, rounded up (with N7's 24)
 unfoldable pub amounts : Params → ℕ → Amounts
 amounts p longest = record {
   places = p .«proof_size»;
   «bin_table» = 3 * p .«set_size» + 1;
   «most_steps» = p .«max_retries» * p .«dfs_bound»;
-  «ticket_blocks» = blockCount (20 + p .«proof_size» * (13 + longest));
+  «ticket_blocks» = blockCount (24 + p .«proof_size» * (13 + longest));
 }
 
 -- 01, Lent and given back, refusals: every amount is 0

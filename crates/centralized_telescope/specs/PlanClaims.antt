@@ -77,18 +77,20 @@ ticketFits =
     → (bytes′ ends′ marks′ indexes′ out : List ℕ) → 512 * a .«ticket_blocks» ≤ length out
     → TicketFits p bytes ends marks indexes places table bytes′ ends′ marks′ indexes′ out longest a
 
--- ---- 02, N5: the bound on blocks is tight. The ticket of five elements, each with an index and 84 data bytes, holds 505 bytes, one more than a body has
+-- ---- 02, N5: the bound on blocks is tight. The ticket of thirteen elements, each with an index and 24 data bytes, holds 505 bytes, one more than a
+-- body has
 
-abbrev pub fiveSettings : Params
-fiveSettings =
-    record { «set_size» = 6; «proof_size» = 5; «max_retries» = 4; «search_width» = 3; «dfs_bound» = 600; x = record { hi = 2 ^ 63; lo = 0 } }
+abbrev pub thirteenSettings : Params
+thirteenSettings =
+    record { «set_size» = 14; «proof_size» = 13; «max_retries» = 4; «search_width» = 3; «dfs_bound» = 600; x = record { hi = 2 ^ 63; lo = 0 } }
 
 -- their ticket into a buffer of so many bytes
-abbrev pub fiveInto : ℕ → ℕ → ℕ → TicketWritten
-fiveInto R S size =
-    ticketWritten R S (replicate 420 97) (84 ∷ 168 ∷ 252 ∷ 336 ∷ 420 ∷ []) (replicate 5 1) (0 ∷ 1 ∷ 2 ∷ 3 ∷ 4 ∷ []) (replicate size 0)
+abbrev pub thirteenInto : ℕ → ℕ → ℕ → TicketWritten
+thirteenInto R S size =
+    ticketWritten R S (replicate 312 97) (24 ∷ 48 ∷ 72 ∷ 96 ∷ 120 ∷ 144 ∷ 168 ∷ 192 ∷ 216 ∷ 240 ∷ 264 ∷ 288 ∷ 312 ∷ []) (replicate 13 1)
+    (0 ∷ 1 ∷ 2 ∷ 3 ∷ 4 ∷ 5 ∷ 6 ∷ 7 ∷ 8 ∷ 9 ∷ 10 ∷ 11 ∷ 12 ∷ []) (replicate size 0)
 
 abbrev pub tightExample : Type 0
 tightExample =
-    IsPlan fiveSettings 84 (record { places = 5; «bin_table» = 19; «most_steps» = 2400; «ticket_blocks» = 2 })
-    × ((R S : ℕ) → (fiveInto R S 1024 .count ≡ 2) × (fiveInto R S 1023 .number ≡ 42))
+    IsPlan thirteenSettings 24 (record { places = 13; «bin_table» = 43; «most_steps» = 2400; «ticket_blocks» = 2 })
+    × ((R S : ℕ) → (thirteenInto R S 1024 .count ≡ 2) × (thirteenInto R S 1023 .number ≡ 42))

@@ -1,4 +1,4 @@
--- Document 02, N1, what holds of tickets beyond the single calls: four claims over the definitions that the contracts of `write_ticket`,
+-- Document 02, N1 and N7, what holds of tickets beyond the single calls: five claims over the definitions that the contracts of `write_ticket`,
 -- `read_ticket` and `verify` equate their results with.
 use mathlib.Core.Path.{_≡_}
 use mathlib.Core.Bool.{true, false}
@@ -6,13 +6,14 @@ use mathlib.Core.Logic.{_↔_}
 use mathlib.Core.List.{List}
 use Prim.Native.Nat.{ℕ, _*_, _/_, _^_, _≤_, _<_}
 use lib.ListN.{length, take, getD}
+use Rattle.sampling.specs.BigEndian.{bigEndian}
 use Rattle.centralized_telescope.specs.declared.params.Params.{Params}
 use Rattle.centralized_telescope.specs.Lists.{Each, over}
 use Rattle.centralized_telescope.specs.Elements.{Element, elements, listCheck}
 use Rattle.centralized_telescope.specs.Verifier.{verdict}
 use Rattle.centralized_telescope.specs.ProofList.{joined, buffersShort}
-use Rattle.centralized_telescope.specs.Blocks.{damaged}
-use Rattle.centralized_telescope.specs.Tickets.{ticket, ProofFits, IsTicket, TicketWritten, ticketWritten, TicketRead, ticketRead}
+use Rattle.centralized_telescope.specs.Blocks.{bodiesOf, damaged}
+use Rattle.centralized_telescope.specs.Tickets.{ticket, ProofFits, IsTicket, blocksIn, TicketWritten, ticketWritten, TicketRead, unread, ticketRead}
 
 -- ---- words
 
@@ -130,3 +131,15 @@ abbrev pub ticketsExactly : Type 0
 ticketsExactly =
     ((t bytes ends marks indexes : List ℕ) → Each (λ (b : ℕ). b < 256) t → TicketOrNot t bytes ends marks indexes)
     × OneProof
+
+-- ---- 02, N7: the number of blocks, which the first four bytes of a ticket are
+
+abbrev pub blocksCounted : Type 0
+blocksCounted =
+    -- a card reader that has these bytes knows how much to fetch
+    ((t : List ℕ) → IsTicket t → length t ≡ 512 * bigEndian 4 t)
+    -- the first block, or any longer front, states the same number
+    × ((t : List ℕ) (n : ℕ) → IsTicket t → 512 ≤ n → blocksIn (bodiesOf (take n t)) ≡ bigEndian 4 t)
+    -- and whole blocks whose checks hold, of which there are more or fewer, are refused with 41
+    × ((t bytes ends marks indexes : List ℕ) → damaged t ≡ false → (bigEndian 4 t ≡ length t / 512 → ⊥)
+    → ticketRead t bytes ends marks indexes ≡ unread 41 bytes ends marks indexes)

@@ -1,5 +1,5 @@
--- Document 02, N1, a ticket: R, S and a proof's elements in the joined bodies of blocks; what the writer and the reader answer, and every lent
--- buffer afterwards.
+-- Document 02, N1 and N7, a ticket: the number of its blocks, R, S and a proof's elements in the joined bodies of blocks; what the writer and the
+-- reader answer, and every lent buffer afterwards.
 use mathlib.Core.Path.{_≡_}
 use mathlib.Core.Bool.{Bool, cond, not, _&&_, _||_}
 use mathlib.Core.List.{List, [], _∷_, _++_}
@@ -18,7 +18,7 @@ use Rattle.centralized_telescope.specs.Elements.{Element, markOf, number
 use Rattle.centralized_telescope.specs.ProofList.{joined, endsFrom, marksOf, indexesOf, buffersShort}
 use Rattle.centralized_telescope.specs.Blocks.{blockCount, blocks, bodiesOf, damaged}
 
--- ---- 02, N1, the layout of the joined bodies
+-- ---- 02, N1 and N7, the layout of the joined bodies
 
 -- of an element before its data: the mark, the index if the mark is 1, the data length
 abbrev pub headBytes : Option ℕ → ℕ → List ℕ
@@ -31,9 +31,10 @@ unfoldable pub elementsBytes : List Element → List ℕ
 elementsBytes [] = []
 elementsBytes (e ∷ es) = elementBytes e ++ elementsBytes es
 
--- R, S, the number of elements, and the elements
+-- the number of blocks that hold the content (24 bytes stand before the elements), R, S, the number of elements, and the elements
 unfoldable pub content : ℕ → ℕ → List Element → List ℕ
-content R S es = bytesOf 8 R ++ (bytesOf 8 S ++ (bytesOf 4 (length es) ++ elementsBytes es))
+content R S es =
+    bytesOf 4 (blockCount (24 + length (elementsBytes es))) ++ (bytesOf 8 R ++ (bytesOf 8 S ++ (bytesOf 4 (length es) ++ elementsBytes es)))
 
 -- the ticket of a proof
 unfoldable pub ticket : ℕ → ℕ → List Element → List ℕ
@@ -58,18 +59,23 @@ IsTicket t = (R : ℕ) × (S : ℕ) × (es : List Element) × ProofFits R S es �
 
 -- ---- what a reader finds in the joined bodies b, if they are a ticket's
 
+-- the number of blocks that they state
+abbrev pub blocksIn : List ℕ → ℕ
+blocksIn b = bigEndian 4 b
+
 abbrev pub retryIn : List ℕ → ℕ
-retryIn b = bigEndian 8 b
+retryIn b = bigEndian 8 (drop 4 b)
 
 abbrev pub searchIn : List ℕ → ℕ
-searchIn b = bigEndian 8 (drop 8 b)
+searchIn b = bigEndian 8 (drop 12 b)
 
+-- the number of elements
 abbrev pub countIn : List ℕ → ℕ
-countIn b = bigEndian 4 (drop 16 b)
+countIn b = bigEndian 4 (drop 20 b)
 
--- behind R, S and the number of elements
+-- behind them all
 abbrev pub elementsPart : List ℕ → List ℕ
-elementsPart b = drop 20 b
+elementsPart b = drop 24 b
 
 -- the element that bytes begin with
 unfoldable pub elementIn : List ℕ → Element

@@ -26,12 +26,12 @@ pub enum Planned {
     Refused(Refusal),
 }
 
-// An element of a ticket has 13 bytes before its data, its index among them, and the ticket 20 before its elements.
+// An element of a ticket has 13 bytes before its data, its index among them, and the ticket 24 before its elements.
 fn amounts_of(p: Params, longest: u64) -> Amounts
     requires { ⌜ (checked p ≡ 0) × (longest ≤ 4096) ⌝ }
     ensures { λ r. ⌜ r ≡ amounts p longest ⌝ }
 {
-    let size = 20 + p.proof_size * (13 + longest);
+    let size = 24 + p.proof_size * (13 + longest);
     Amounts {
         places: p.proof_size,
         bin_table: 3 * p.set_size + 1,

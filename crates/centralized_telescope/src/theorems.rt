@@ -3,9 +3,10 @@
 ghost use Rattle.centralized_telescope.specs.AllCases.{AllCases};
 ghost use Rattle.centralized_telescope.specs.Demand3.{demand3, servedExample};
 ghost use Rattle.centralized_telescope.specs.Distinct.{distinctExactly};
+ghost use Rattle.centralized_telescope.specs.FirstLayout.{firstRefused};
 ghost use Rattle.centralized_telescope.specs.PlanClaims.{planSuffices, planNeeded, stepsNotPassed, ticketFits, tightExample};
 ghost use Rattle.centralized_telescope.specs.ProofSize.{sizeNeverFalls, sizeNeverRises};
-ghost use Rattle.centralized_telescope.specs.TicketClaims.{readsBack, writesBack, judgedAlike, ticketsExactly};
+ghost use Rattle.centralized_telescope.specs.TicketClaims.{readsBack, writesBack, judgedAlike, ticketsExactly, blocksCounted};
 
 // The claim on prove and verify at once, for every run that is served.
 pub fn demand_3()
@@ -46,6 +47,17 @@ pub fn ticket_judged_alike()
 // and a buffer too short. No two proofs have one ticket.
 pub fn tickets_exactly()
     ensures { λ _. ⌜ ticketsExactly ⌝ }
+{}
+
+// The first four bytes of a ticket are the number of its blocks; whole blocks whose checks hold, but not so many, are refused with 41.
+pub fn blocks_counted()
+    ensures { λ _. ⌜ blocksCounted ⌝ }
+{}
+
+// A ticket of the first layout, without a number of blocks, is refused with 41 if R is below 2^32, whatever S and the elements are; with R = 2^32
+// one is another proof's ticket.
+pub fn first_layout_refused()
+    ensures { λ _. ⌜ firstRefused ⌝ }
 {}
 
 // With the planned amounts lent the prover never gives 6, for every list.

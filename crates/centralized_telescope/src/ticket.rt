@@ -1,4 +1,4 @@
-// A proof as a ticket: R, S and the elements in the joined bodies of blocks, and back.
+// A proof as a ticket: the number of blocks, R, S and the elements in the joined bodies of blocks, and back.
 ghost use mathlib.Core.Path.{_≡_};
 ghost use mathlib.Core.Bool.{true, false};
 ghost use mathlib.Core.List.{_++_};
@@ -9,8 +9,8 @@ ghost use Rattle.sampling.specs.BigEndian.{bigEndian, bytesOf};
 ghost use Rattle.centralized_telescope.specs.Lists.{someOf, over};
 ghost use Rattle.centralized_telescope.specs.Elements.{elements, indexOf, listCheck};
 ghost use Rattle.centralized_telescope.specs.ProofList.{listOver, buffersShort};
-ghost use Rattle.centralized_telescope.specs.Blocks.{bodiesOf, damaged};
-ghost use Rattle.centralized_telescope.specs.Tickets.{headBytes, elementsBytes, content, elementsIn, ticketWritten, ticketWrittenBy, ticketRead, ticketReadBy, elementsPart};
+ghost use Rattle.centralized_telescope.specs.Blocks.{blockCount, bodiesOf, damaged};
+ghost use Rattle.centralized_telescope.specs.Tickets.{headBytes, elementsBytes, content, blocksIn, elementsIn, ticketWritten, ticketWrittenBy, ticketRead, ticketReadBy, elementsPart};
 ghost use Rattle.centralized_telescope.specs.inner.TicketReading.{HeadSays, LayoutSays, FoundSays, allLaidOut, dataSize, fillingRight, listed};
 use crate::blocks::copy_from_bodies;
 use crate::blocks::fill_zeros;
@@ -119,7 +119,7 @@ fn write_elements_bytes(
     }
 }
 
-// What stands before the elements: R, S and their number.
+// What stands between the number of blocks and the elements: R, S and the number of elements.
 fn content_head(retry: RetryCounter, search: SearchCounter, count: usize) -> [u8; 20]
     ensures { λ r. ⌜ r ≡ bytesOf 8 (retry .0) ++ (bytesOf 8 (search .0) ++ bytesOf 4 count) ⌝ }
 {
@@ -130,8 +130,10 @@ fn content_head(retry: RetryCounter, search: SearchCounter, count: usize) -> [u8
     head
 }
 
-// Writes R, S, the number of elements and the elements of an accepted list over the first bytes of a buffer that has room for them.
+// Writes the number of blocks, R, S, the number of elements and the elements of an accepted list over the first bytes of a buffer that has
+// room for them.
 fn write_content(
+    blocks: usize,
     retry: RetryCounter,
     search: SearchCounter,
     data: &[u8],
@@ -141,12 +143,14 @@ fn write_content(
     out: &mut [u8],
 )
     requires { ⌜ (listCheck (now «data») (now ends) (now marks) (now indexes) ≡ 0)
+        × (blocks ≡ blockCount (24 + length (elementsBytes (elements (now «data») (now ends) (now marks) (now indexes)))))
         × (length (content (retry .0) (search .0) (elements (now «data») (now ends) (now marks) (now indexes))) ≤ length (now out)) ⌝ }
     ensures { λ _. ⌜ now (out .exit) ≡ over (content (retry .0) (search .0) (elements (now («data» .entry)) (now (ends .entry)) (now (marks .entry)) (now (indexes .entry)))) (now (out .entry)) ⌝ }
 {
     let head = content_head(retry, search, ends.len());
-    copy_at(&head, 0, out);
-    write_elements_bytes(data, ends, marks, indexes, 20, out);
+    write_number(blocks as u64, &mut out[..4]);
+    copy_at(&head, 4, out);
+    write_elements_bytes(data, ends, marks, indexes, 24, out);
 }
 
 // Writes the ticket of R, S and a list of elements over the first bytes of a lent buffer. Data that belongs to no element and an index whose
@@ -169,12 +173,13 @@ pub fn write_ticket(
             return TicketBlocks::Refused(k);
         }
     }
-    let size = 20 + elements_size(data, ends, marks, indexes);
+    let size = 24 + elements_size(data, ends, marks, indexes);
     let count = (size + 503) / 504;
     if ticket.len() < 512 * count {
         return TicketBlocks::Refused(Refusal::BufferShort);
     }
     write_content(
+        count,
         retry_counter,
         search_counter,
         data,
@@ -233,6 +238,16 @@ fn field(ticket: &[u8], at: usize, k: usize) -> u64
     number(&bytes, 0, k)
 }
 
+// How many blocks a ticket states that it has, in its first four bytes: as many as there are to fetch. 0 where there isn't one block whole.
+pub fn stated_blocks(ticket: &[u8]) -> u64
+    ensures { λ r. ⌜ r ≡ blocksIn (bodiesOf (now (ticket .entry))) ⌝ }
+{
+    if ticket.len() < 512 {
+        return 0;
+    }
+    field(ticket, 0, 4)
+}
+
 // The head of the element at a place, if one is there that ends within the bodies and has no more data than an element may have.
 fn head_at(ticket: &[u8], at: usize) -> Head
     requires { ⌜ at ≤ 504 * (length (now ticket) / 512) ⌝ }
@@ -269,12 +284,12 @@ fn head_at(ticket: &[u8], at: usize) -> Head
     })
 }
 
-// The layout of so many elements from the place 20 on.
+// The layout of so many elements from the place 24 on.
 fn layout_of(ticket: &[u8], count: usize) -> Layout
-    requires { ⌜ (20 ≤ 504 * (length (now ticket) / 512)) × (count ≤ 65536) ⌝ }
+    requires { ⌜ (24 ≤ 504 * (length (now ticket) / 512)) × (count ≤ 65536) ⌝ }
     ensures { λ r. ⌜ LayoutSays r count (bodiesOf (now (ticket .entry))) ⌝ }
 {
-    let mut at: usize = 20;
+    let mut at: usize = 24;
     let mut used: usize = 0;
     let mut i = 0;
     while i < count {
@@ -320,7 +335,7 @@ fn is_filling_right(ticket: &[u8], end: usize) -> bool
     !some_over_zero(&rest[..len])
 }
 
-// What undamaged blocks hold. The number of elements is looked at before any of them: it may be anything.
+// What undamaged blocks hold. Both numbers, of blocks and of elements, are looked at before any element: they may be anything.
 fn find_elements(ticket: &[u8]) -> Found
     requires { ⌜ damaged (now ticket) ≡ false ⌝ }
     ensures { λ r. ⌜ FoundSays r (now (ticket .entry)) ⌝ }
@@ -328,7 +343,10 @@ fn find_elements(ticket: &[u8]) -> Found
     if ticket.len() == 0 {
         return Found::NoTicket;
     }
-    let count = field(ticket, 16, 4) as usize;
+    if stated_blocks(ticket) != (ticket.len() / 512) as u64 {
+        return Found::NoTicket;
+    }
+    let count = field(ticket, 20, 4) as usize;
     if 65536 < count {
         return Found::NoTicket;
     }
@@ -364,7 +382,7 @@ fn is_room_short(
     data_room < size
 }
 
-// Writes so many elements from the place 20 on into buffers that have room for them, and says how many data bytes that took.
+// Writes so many elements from the place 24 on into buffers that have room for them, and says how many data bytes that took.
 fn read_elements(
     ticket: &[u8],
     count: usize,
@@ -373,12 +391,12 @@ fn read_elements(
     marks: &mut [u8],
     indexes: &mut [u64],
 ) -> usize
-    requires { ⌜ (20 ≤ 504 * (length (now ticket) / 512)) × (count ≤ 65536) × (allLaidOut count (elementsPart (bodiesOf (now ticket))) ≡ true)
+    requires { ⌜ (24 ≤ 504 * (length (now ticket) / 512)) × (count ≤ 65536) × (allLaidOut count (elementsPart (bodiesOf (now ticket))) ≡ true)
         × (dataSize count (elementsPart (bodiesOf (now ticket))) ≤ length (now «data»)) × (count ≤ length (now ends)) × (count ≤ length (now marks)) × (count ≤ length (now indexes)) ⌝ }
     ensures { λ r. ⌜ listed r (now («data» .exit)) (now (ends .exit)) (now (marks .exit)) (now (indexes .exit))
         ≡ listOver (elementsIn count (elementsPart (bodiesOf (now (ticket .entry))))) (now («data» .entry)) (now (ends .entry)) (now (marks .entry)) (now (indexes .entry)) ⌝ }
 {
-    let mut at: usize = 20;
+    let mut at: usize = 24;
     let mut used: usize = 0;
     let mut i = 0;
     while i < count {
@@ -427,8 +445,8 @@ pub fn read_ticket(
     }
     let len = read_elements(ticket, count, data, ends, marks, indexes);
     TicketProof::Read(
-        RetryCounter(field(ticket, 0, 8)),
-        SearchCounter(field(ticket, 8, 8)),
+        RetryCounter(field(ticket, 4, 8)),
+        SearchCounter(field(ticket, 12, 8)),
         count,
         len,
     )

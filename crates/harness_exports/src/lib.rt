@@ -2,7 +2,9 @@
 ghost use mathlib.Core.Path.{_≡_};
 ghost use mathlib.Core.List.{_++_};
 ghost use lib.ListN.{length};
+ghost use Rattle.centralized_telescope.specs.Blocks.{bodiesOf};
 ghost use Rattle.centralized_telescope.specs.Exports.{settingsOf};
+ghost use Rattle.centralized_telescope.specs.Tickets.{blocksIn};
 ghost use Rattle.harness_exports.specs.Exported.{exportedHash, six, exportedSmallCase, exportedDistinct, withoutProof, numbersOf, withCounters, exportedProve, blocksNumbers, withFirst, exportedWriteTicket, readNumbers, withRead, exportedReadTicket, planNumbers, withAmounts, exportedPlan, sizeNumbers, ExportedSize};
 use centralized_telescope::Amounts;
 use centralized_telescope::Distinctness;
@@ -288,6 +290,14 @@ pub extern "C" fn alba_read_ticket(
     let n = read_numbers(answer);
     put_read(n, out);
     n.number
+}
+
+// The number of blocks that a ticket states; 0 where there isn't one block whole.
+#[no_mangle]
+pub extern "C" fn alba_stated_blocks(ticket: &[u8]) -> u64
+    ensures { λ r. ⌜ r ≡ blocksIn (bodiesOf (now («ticket» .entry))) ⌝ }
+{
+    centralized_telescope::stated_blocks(ticket)
 }
 
 // What planning answers, in numbers.

@@ -22,7 +22,7 @@ fn say_meaning(number: u64) {
         30 => say(b"the proof size is not 1 to 1024"),
         31 => say(b"the completeness is no number, below 0 or above 65535"),
         40 => say(b"the ticket's size is not whole blocks, or a block's check fails"),
-        41 => say(b"what the ticket's blocks hold is no proof"),
+        41 => say(b"the blocks are no proof's ticket"),
         42 => say(b"more than there is room for"),
         43 => say(
             b"a security figure is outside its range: soundness 0 to 256, completeness 1 to 1024, set size 2 to 32768, lower bound 1 to set size - 1",

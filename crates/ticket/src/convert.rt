@@ -2,6 +2,7 @@
 ghost use mathlib.Core.Path.{_≡_};
 ghost use lib.ListN.{length};
 use crate::report::say_proof;
+use crate::report::say_unread;
 use arguments::say_refused;
 use centralized_telescope::RetryCounter;
 use centralized_telescope::SearchCounter;
@@ -138,7 +139,7 @@ fn read_blocks(name: &[u8], ticket: &[u8]) {
             first_bytes(&marks, count),
             first_indexes(&indexes, count),
         ),
-        TicketProof::Refused(k) => say_refused(k),
+        TicketProof::Refused(k) => say_unread(k, ticket),
     }
 }
 

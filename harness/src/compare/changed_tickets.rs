@@ -1,10 +1,11 @@
 //! Tickets that are none any more, or other ones: damaged, or changed and sealed again, so that the checks are right and the layout isn't.
 
+use super::block_counts;
 use crate::{
     list::List,
     rng::Rng,
     ticket,
-    ticket::{in_blocks, Proof, BLOCK, BODY, HEAD},
+    ticket::{in_blocks, Proof, BLOCK, BODY, HEAD, STATED},
 };
 
 /// Where the fields of an element stand among the joined bodies.
@@ -27,8 +28,10 @@ fn fields(list: &List) -> Vec<Field> {
     (0..list.len()).map(place_of).collect()
 }
 
-/// The number of elements stands here.
-const COUNT: usize = 16;
+/// R stands behind the number of blocks, then S, then the number of elements.
+const RETRY: usize = STATED;
+const SEARCH: usize = RETRY + 8;
+const COUNT: usize = SEARCH + 8;
 
 /// Writes bytes over the joined bodies from a place on, as far as there are any.
 fn put(blocks: &mut [u8], place: usize, bytes: &[u8]) {
@@ -56,7 +59,7 @@ pub fn any(rng: &mut Rng, proof: &Proof, bytes: &[u8]) -> Vec<u8> {
 }
 
 /// How many kinds of changes there are.
-pub const KINDS: u64 = 21;
+pub const KINDS: u64 = 23;
 
 /// The ticket of a proof, or what came of it before, with a change of this kind, its checks right again.
 pub fn of_kind(rng: &mut Rng, kind: u64, proof: &Proof, bytes: &[u8]) -> Vec<u8> {
@@ -69,11 +72,13 @@ pub fn of_kind(rng: &mut Rng, kind: u64, proof: &Proof, bytes: &[u8]) -> Vec<u8>
             let place = rng.below((changed.len() / BLOCK * BODY) as u64 + 1) as usize;
             put(&mut changed, place, &[rng.word() as u8]);
         }
-        // Other counters: S stands after R, which stands first.
+        // Other counters.
         20 => {
-            put(&mut changed, 0, &rng.word().to_be_bytes());
-            put(&mut changed, 8, &rng.word().to_be_bytes());
+            put(&mut changed, RETRY, &rng.word().to_be_bytes());
+            put(&mut changed, SEARCH, &rng.word().to_be_bytes());
         }
+        21 => changed = block_counts::any_wrong(rng, bytes),
+        22 => changed = ticket::in_first_layout(proof),
         _ => changed = other_blocks(rng, kind, changed),
     }
     let whole = changed.len() / BLOCK * BLOCK;
@@ -134,7 +139,7 @@ fn filling(rng: &mut Rng, kind: u64, proof: &Proof, changed: &mut [u8]) {
     }
 }
 
-/// Blocks added, swapped, repeated or cut.
+/// Blocks added, swapped, repeated or cut, and their number right again.
 fn other_blocks(rng: &mut Rng, kind: u64, changed: Vec<u8>) -> Vec<u8> {
     let mut blocks: Vec<&[u8]> = changed.chunks(BLOCK).collect();
     let mut random = [0; BLOCK];
@@ -153,7 +158,9 @@ fn other_blocks(rng: &mut Rng, kind: u64, changed: Vec<u8>) -> Vec<u8> {
         }
         _ => blocks.clear(),
     }
-    blocks.concat()
+    let mut changed = blocks.concat();
+    block_counts::state(&mut changed, |count| count);
+    changed
 }
 
 /// How many kinds of damages there are.
@@ -204,8 +211,8 @@ mod tests {
                 }
             }
         }
-        // A mark over 1, a byte in the filling and a block of zeros at the end are never a ticket's.
-        assert!([4, 12, 15].iter().all(|kind| refused[*kind] == 200), "{refused:?}");
+        // A mark over 1, a byte in the filling, a block of zeros at the end, a wrong number of blocks and, with this R, none are never a ticket's.
+        assert!([4, 12, 15, 21, 22].iter().all(|kind| refused[*kind] == 200), "{refused:?}");
         // An index, data, R and S can be others.
         assert!([10, 11, 20].iter().all(|kind| refused[*kind] == 0), "{refused:?}");
         for damage in 0..DAMAGES {

@@ -34,7 +34,7 @@ pub struct Export {
 const SEED: u64 = 0x43_c389_a516;
 
 pub fn all() -> Result<Vec<Export>, String> {
-    let (samplers, tickets) = ([uniform(), bernoulli(), converter(), hash(), small()], [write_ticket(), read_ticket()]);
+    let (samplers, tickets) = ([uniform(), bernoulli(), converter(), hash(), small()], [write_ticket(), read_ticket(), stated_blocks()]);
     let searches = [distinct(), prove()?, verify()?];
     Ok(samplers.into_iter().chain(searches).chain(tickets).chain([plan(), size()]).collect())
 }
@@ -240,6 +240,14 @@ fn read_ticket() -> Export {
         Ok(answer.err().unwrap_or(0))
     };
     Export { name: "alba_read_ticket", args, answer: 0, ours, due }
+}
+
+/// Parameter: ticket.
+fn stated_blocks() -> Export {
+    let args = Args { bytes: vec![ticket::of(&Proof::default())], ..Args::default() };
+    let ours = |args: &mut Args| ffi::stated_blocks(Some(&args.bytes[0])) as u32;
+    let due = |args: &mut Args| Ok(ticket::stated_blocks(&args.bytes[0]) as u32);
+    Export { name: "alba_stated_blocks", args, answer: 1, ours, due }
 }
 
 /// Parameters: set_size, proof_size, max_retries, search_width, dfs_bound, x_high, x_low, longest, out. X's words are over every limit,

@@ -1,6 +1,7 @@
 //! The library against the original Rust (and `sha2`), on the same inputs, and against the specification's words where the Rust has no answer.
 
 pub mod bernoulli;
+pub mod block_counts;
 pub mod blocks;
 mod by_x;
 pub mod chains;
@@ -43,7 +44,7 @@ type Kind = fn(&mut Run, u64) -> Checked;
 
 pub fn run(options: &Compare) -> Checked {
     println!("seed 0x{:016x}, {} random cases", options.seed, options.cases);
-    let kinds: [(&str, Kind, u64); 20] = [
+    let kinds: [(&str, Kind, u64); 21] = [
         ("orders of parameters", parameters::run, 0),
         ("uniform", uniform::run, options.cases),
         ("threshold", threshold::run, options.cases),
@@ -61,6 +62,7 @@ pub fn run(options: &Compare) -> Checked {
         ("refusals of prove", prover_refusals::run, options.cases / 100),
         ("refusals of verify", verifier_refusals::run, options.cases / 100),
         ("tickets", tickets::run, options.cases / 50),
+        ("block counts", block_counts::run, options.cases / 1000),
         ("planning", plan::run, options.cases),
         ("planned runs", planned::run, options.cases / 200),
         ("proof size", proof_size::run, options.cases / 40),

@@ -145,7 +145,7 @@ fn every_length(proof_size: u64, block: &mut Block) -> Checked {
         let Amounts { ticket_blocks, .. } = amounts(block, &s, longest)?;
         block.seen.count(if ticket_blocks > before { GROWS } else { STAYS }, 0);
         before = ticket_blocks;
-        match (20 + proof_size * (13 + longest)) % 504 {
+        match rules::ticket_content(proof_size.into(), longest.into()) % 504 {
             0 => block.seen.count(FULL, 0),
             1 => block.seen.count(ONE_BYTE, 0),
             _ => (),

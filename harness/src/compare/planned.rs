@@ -268,13 +268,13 @@ fn at_limits() -> Vec<Planned> {
 mod tests {
     use super::*;
 
-    /// Worked out by hand: 33 bytes before the data of a proof of one element, 46 before those of one of two.
+    /// Worked out by hand: 37 bytes beside the data of a proof of one element, 50 beside those of one of two.
     #[test]
     fn where_the_blocks_grow() {
         let of = |proof_size, from| next_growth(&Settings { proof_size, ..MOST }, from);
-        assert_eq!((of(1, 0), of(1, 471), of(1, 472)), (472, 472, 976));
-        // Two elements of 229 bytes just fill a block.
-        assert_eq!((of(2, 0), of(2, 230)), (230, 482));
+        assert_eq!((of(1, 0), of(1, 467), of(1, 468)), (468, 468, 972));
+        // Two elements of 227 bytes just fill a block.
+        assert_eq!((of(2, 0), of(2, 228)), (228, 480));
         assert_eq!((of(0, 0), of(0, 600), of(1, 4096)), (0, 600, 4096));
         // From 504 elements on a byte more is a block more at least.
         assert_eq!((of(504, 7), of(1024, 0)), (8, 1));
@@ -308,8 +308,8 @@ mod tests {
         assert_eq!(of(&[(2, Some(1)), (2, Some(1))], 2), (WHOLE, true));
         assert_eq!(of(&[(2, Some(1)), (2, None)], 2), (AS_MANY, false));
         assert_eq!(of(&[(2, Some(1)), (1, Some(1))], 2), (AS_MANY, false));
-        // 504 bytes are planned for with 471, and a byte more makes a block more.
-        assert_eq!((of(&[(471, Some(1))], 471), of(&[(472, Some(1))], 472)), ((WHOLE, true), (WHOLE, true)));
-        assert_eq!((of(&[(471, Some(1))], 472), of(&[(472, None)], 472)), ((FEWER, false), (FEWER, false)));
+        // 504 bytes are planned for with 467, and a byte more makes a block more.
+        assert_eq!((of(&[(467, Some(1))], 467), of(&[(468, Some(1))], 468)), ((WHOLE, true), (WHOLE, true)));
+        assert_eq!((of(&[(467, Some(1))], 468), of(&[(468, None)], 468)), ((FEWER, false), (FEWER, false)));
     }
 }

@@ -1,7 +1,7 @@
 //! `alba_write_ticket` and `alba_read_ticket` against the harness's own writer and reader (src/ticket.rs): the number, what stands in
-//! `out`, and every byte of every lent buffer.
+//! `out`, and every byte of every lent buffer. Of whatever is read, `alba_stated_blocks` is asked too.
 
-use super::blocks::{self, Block};
+use super::blocks::{self, Block, Tally};
 use super::fence::Fenced;
 use super::rules::{self, BYTES, ELEMENTS};
 use super::verdicts::Claim;
@@ -88,6 +88,7 @@ pub fn read(block: &mut Block, bytes: &[u8], rooms: Rooms) -> Answered {
     let mut indexes = Fenced::new(rng, rooms.indexes, |word| word);
     let mut out = Fenced::new(rng, rooms.out, |word| word);
     let lent = bytes.to_vec();
+    stated(&mut block.tally, &lent)?;
     let places = ffi::Rooms { data: &mut data, ends: &mut ends, marks: &mut marks, indexes: &mut indexes };
     let ours = ffi::read_ticket(Some(&lent), places, &mut out);
 
@@ -108,6 +109,16 @@ pub fn read(block: &mut Block, bytes: &[u8], rooms: Rooms) -> Answered {
     }
     block.tally.count("read ticket", ours);
     Ok(ours)
+}
+
+/// The number of blocks that is stated, in whatever bytes. It is counted as 0 where there are as many, as 1 where there aren't.
+fn stated(tally: &mut Tally, bytes: &[u8]) -> Checked {
+    let (ours, due) = (ffi::stated_blocks(Some(bytes)), ticket::stated_blocks(bytes));
+    if ours != due {
+        return Err(format!("{}  blocks stated, ours: {ours}\n  due: {due}\n", shown_ticket(bytes)));
+    }
+    tally.count("stated count", u32::from(ours != (bytes.len() / BLOCK) as u64));
+    Ok(())
 }
 
 /// The number that is due, what is told, and what is written of the list: nothing where it is refused.

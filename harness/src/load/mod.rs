@@ -6,14 +6,14 @@ mod turns;
 
 use crate::args::Load;
 use crate::compare::blocks::{self, Block, Tally};
-use crate::compare::{planned, planted, Checked};
+use crate::compare::{block_counts, planned, planted, Checked};
 use std::panic::{self, AssertUnwindSafe};
 use std::sync::{Mutex, MutexGuard, PoisonError};
 use std::thread;
 use std::time::{Duration, Instant};
 
 /// The exported calls, as the tallies name them.
-const CALLS: [&str; 12] = [
+const CALLS: [&str; 13] = [
     "uniform",
     "Bernoulli",
     "threshold",
@@ -24,6 +24,7 @@ const CALLS: [&str; 12] = [
     "verify",
     "write ticket",
     "read ticket",
+    "stated count",
     "plan",
     "proof size",
 ];
@@ -37,7 +38,7 @@ struct Shared {
     end: u64,
     running: usize,
     tally: Tally,
-    /// How often each kind of list for distinctness, of what is planned and of security figures came.
+    /// How often each kind of list for distinctness, of what is planned, of security figures and of tickets by their number of blocks came.
     seen: Tally,
     failed: Checked,
 }
@@ -64,7 +65,7 @@ pub fn run(options: &Load) -> Checked {
     ended.failed?;
     print!("{}{}", table(&ended.tally), ended.seen.lines("kinds"));
     if turn.is_none() {
-        let kinds = planted::kinds().chain(planned::kinds());
+        let kinds = planted::kinds().chain(planned::kinds()).chain(block_counts::kinds());
         ended.seen.none_missing(kinds).map_err(|why| format!("kinds: FAILED (seed 0x{seed:016x})\n{why}"))?;
     }
     println!("equal in all cases: {}", so_far(&ended.tally, started));

@@ -6,8 +6,8 @@ use crate::compare::planned::{self, Planned};
 use crate::compare::planted::{NUMBERS, PLANTS, SHAPES};
 use crate::compare::rules::{BYTES, ELEMENTS, MOST};
 use crate::compare::{
-    bernoulli, distinct, faults, hash, plan, proof_size, prover_refusals, refusals, searches, small_case, threshold, tickets, uniform,
-    verdicts, verifier_refusals,
+    bernoulli, block_counts, distinct, faults, hash, plan, proof_size, prover_refusals, refusals, searches, small_case, threshold, tickets,
+    uniform, verdicts, verifier_refusals,
 };
 use crate::compare::{Answered, Checked};
 use crate::{ffi, ffi::Settings, list::List, rng::Rng, ticket::Proof};
@@ -189,14 +189,18 @@ fn bad_to_verify(block: &mut Block) -> Checked {
     Ok(())
 }
 
-/// A list of any size there and back, its ticket changed, and the list with faults; the same with R, S and a list that is mostly short.
+/// A list of any size there and back, its ticket changed, and the list with faults; the same with R, S and a list that is mostly short,
+/// and some of these with each wrong number of blocks and in the first layout.
 fn tickets(block: &mut Block) -> Checked {
     let len = up_to(&mut block.rng, ELEMENTS as u64);
     let list = draws::any_list(&mut block.rng, len as usize);
     let proof = Proof { list, ..tickets::any_proof(&mut block.rng) };
     tickets::of_proof(block, &proof)?;
-    (0..64).try_for_each(|_| {
+    (0..64).try_for_each(|number| {
         let proof = tickets::any_proof(&mut block.rng);
+        if number % 4 == 0 {
+            block_counts::of_proof(block, &proof)?;
+        }
         tickets::of_proof(block, &proof)
     })
 }

@@ -60,7 +60,7 @@ dataSize (suc n) s = sizeIn s + dataSize n (drop (headSize s + sizeIn s) s)
 
 pub record LayoutIs (at used n : ℕ) (b : List ℕ) : Type 0 where
   pub laid : allLaidOut n (elementsPart b) ≡ true
-  pub ends-at : at ≡ 20 + layoutSize n (elementsPart b)
+  pub ends-at : at ≡ 24 + layoutSize n (elementsPart b)
   pub uses : used ≡ dataSize n (elementsPart b)
 
 abbrev pub LayoutSays : Layout → ℕ → List ℕ → Type 0

@@ -1,11 +1,11 @@
 -- Laws of bytes: parts of bytes are bytes, and the number that some make is written in the same bytes again.
-use mathlib.Core.Path.{_≡_, refl, _∙_}
+use mathlib.Core.Path.{_≡_, refl, sym, ap, _∙_}
 use mathlib.Core.Logic.{⊎-elim}
 use mathlib.Core.List.{List, [], _∷_, _++_}
 use Prim.Native.Nat.{ℕ, zero, suc, _+_, _*_, _/_, _%_, _^_, _≤_, _<_}
 use native.Mathlib.Nat.{pow-suc}
 use native.Mathlib.Omega.{arith}
-use lib.ListN.{length, take, drop, getD, length-take, List·getD-eq-default}
+use lib.ListN.{length, take, drop, getD, length-take, take-append-drop, List·getD-eq-default}
 use lib.Seq.{take-suc, getD-take, getD-drop}
 use Rattle.sampling.specs.BigEndian.{bigEndian, bytesOf}
 use Rattle.sampling.specs.laws.BigEndianLaws.{length-bytesOf, bigEndian-append, read-back}
@@ -52,6 +52,15 @@ bytes-again (suc k) s B h =
     let q : (bigEndian k s * 256 + getD s k 0) / 256 ≡ bigEndian k s = omega arith in
     let m : (bigEndian k s * 256 + getD s k 0) % 256 ≡ getD s k 0 = omega arith in
     rw (q, m, bytes-again k s B (omega arith), take-suc s k 0 h)
+
+-- read from a front
+pub front-number : (k n : ℕ) (s : List ℕ) → k ≤ n → k ≤ length s → bigEndian k (take n s) ≡ bigEndian k s
+front-number k n s h l =
+    sym (bigEndian-append k (take n s) (drop n s) (omega (arith, length-take n s))) ∙ ap (bigEndian k) (take-append-drop n s)
+
+-- read from a copy of a front
+pub number-front : (k n : ℕ) (s rest : List ℕ) → k ≤ n → k ≤ length s → bigEndian k (take n s ++ rest) ≡ bigEndian k s
+number-front k n s rest h l = bigEndian-append k (take n s) rest (omega (arith, length-take n s)) ∙ front-number k n s h l
 
 -- read from bytes that begin with it
 pub number-found : (k v : ℕ) (r : List ℕ) → v < 256 ^ k → bigEndian k (bytesOf k v ++ r) ≡ v

@@ -15,7 +15,7 @@ use Rattle.centralized_telescope.specs.declared.planning.Amounts.{Amount
 use Rattle.centralized_telescope.specs.laws.TestLaws.{unsaid}
 use Rattle.centralized_telescope.specs.laws.ListsLaws.{number-passed, number-met, number-last, second-met, number-none}
 use Rattle.centralized_telescope.specs.laws.RefusalsLaws.{refusal-number}
-use Rattle.centralized_telescope.specs.laws.TicketsLaws.{length-element, marked-one}
+use Rattle.centralized_telescope.specs.laws.TicketsLaws.{length-element, elements-most}
 use Rattle.centralized_telescope.specs.laws.TicketsReadLaws.{content-length}
 use Rattle.centralized_telescope.specs.Lists.{Each}
 use Rattle.centralized_telescope.specs.Refusals.{refusalNumber}
@@ -76,12 +76,6 @@ module _ (p : Params) (longest : ℕ) where
 -- ---- how many bytes a ticket holds
 
 module _ (longest : ℕ) where
-  elements-most : (es : List Element) → Each (λ (e : Element). length (e .bytes) ≤ longest) es → length (elementsBytes es) ≤ length es * (13 + longest)
-  unfolding Each elementsBytes
-  elements-most [] h = omega arith
-  elements-most (e ∷ es) h =
-      omega (arith, length-append (elementBytes e) (elementsBytes es), length-element e, marked-one (e .index), h .0, elements-most es (h .1))
-
   elements-exact : (es : List Element) → Each (λ (e : Element). (length (e .bytes) ≡ longest) × (markOf (e .index) ≡ 1)) es
       → length (elementsBytes es) ≡ length es * (13 + longest)
   unfolding Each elementsBytes
@@ -90,9 +84,9 @@ module _ (longest : ℕ) where
       omega (arith, length-append (elementBytes e) (elementsBytes es), length-element e, h .0 .0, h .0 .1, elements-exact es (h .1))
 
   pub content-most : (R S : ℕ) (es : List Element) → Each (λ (e : Element). length (e .bytes) ≤ longest) es
-      → length (content R S es) ≤ 20 + length es * (13 + longest)
-  content-most R S es h = omega (arith, content-length R S es, elements-most es h)
+      → length (content R S es) ≤ 24 + length es * (13 + longest)
+  content-most R S es h = omega (arith, content-length R S es, elements-most longest es h)
 
   pub content-exact : (R S : ℕ) (es : List Element) → Each (λ (e : Element). (length (e .bytes) ≡ longest) × (markOf (e .index) ≡ 1)) es
-      → length (content R S es) ≡ 20 + length es * (13 + longest)
+      → length (content R S es) ≡ 24 + length es * (13 + longest)
   content-exact R S es h = omega (arith, content-length R S es, elements-exact es h)

@@ -33,6 +33,18 @@ unfolding elementBytes
 length-element e =
     omega (arith, length-append (headBytes (e .index) (length (e .bytes))) (e .bytes), head-length (e .index) (length (e .bytes)))
 
+pub marked-one : (o : Option ℕ) → markOf o ≤ 1
+marked-one none = omega arith
+marked-one (some v) = omega arith
+
+-- elements with data no longer than some length
+pub elements-most : (longest : ℕ) (es : List Element) → Each (λ (e : Element). length (e .bytes) ≤ longest) es
+    → length (elementsBytes es) ≤ length es * (13 + longest)
+unfolding Each elementsBytes
+elements-most longest [] h = omega arith
+elements-most longest (e ∷ es) h =
+    omega (arith, length-append (elementBytes e) (elementsBytes es), length-element e, marked-one (e .index), h .0, elements-most longest es (h .1))
+
 -- ---- an index by a mark of 0 or 1
 
 index-mark : (m v : ℕ) → m ≤ 1 → markOf (indexOf m v) ≡ m
@@ -181,10 +193,6 @@ elements-sound (suc n) s B e =
     ) (sym (take-append-drop at s))
 
 -- ---- what was written is found
-
-pub marked-one : (o : Option ℕ) → markOf o ≤ 1
-marked-one none = omega arith
-marked-one (some v) = omega arith
 
 index-found : (o : Option ℕ) (r : List ℕ) → numberOf o < 2 ^ 64 → indexOf (markOf o) (bigEndian 8 (indexBytes o ++ r)) ≡ o
 index-found none r h = refl

@@ -1,5 +1,5 @@
 -- Laws of what is a ticket: it is read as it was written, the yes or no is right, and the reader's tests decide it.
-use mathlib.Core.Path.{_≡_, refl, sym, ap, _∙_}
+use mathlib.Core.Path.{_≡_, refl, sym, ap, _∙_, subst}
 use mathlib.Core.Bool.{Bool, true, false, cond, not}
 use mathlib.Core.List.{List, [], _∷_, _++_, append-assoc}
 use mathlib.Core.Option.{none, some}
@@ -10,16 +10,17 @@ use lib.Dec.{leb, ltb, eqb}
 use lib.ListN.{length, drop, getD, replicate, length-append, length-drop, length-replicate, take-append-drop}
 use lib.Seq.{drop-at, drop-drop}
 use Rattle.sampling.specs.BigEndian.{bigEndian, bytesOf}
-use Rattle.sampling.specs.laws.BigEndianLaws.{length-bytesOf}
+use Rattle.sampling.specs.laws.BigEndianLaws.{length-bytesOf, bigEndian-append}
 use Rattle.centralized_telescope.specs.laws.TestLaws.{not-both, refuted, neither, both}
-use Rattle.centralized_telescope.specs.laws.BytesLaws.{Bytes, bytes-drop, bigEndian-below, bytes-again, number-found}
+use Rattle.centralized_telescope.specs.laws.BytesLaws.{Bytes, bytes-drop, bigEndian-below, bytes-again, number-front, number-found}
 use Rattle.centralized_telescope.specs.laws.DistinctLaws.{bytes-same, same-bytes}
-use Rattle.centralized_telescope.specs.laws.BlocksLaws.{length-bodies, bodies-bytes, sealed-bodies, length-blocks, bodies-blocks, undamaged}
-use Rattle.centralized_telescope.specs.laws.TicketsLaws.{element-laid, elements-count, layout-size, elements-sound, elements-complete}
+use Rattle.centralized_telescope.specs.laws.ProofListLaws.{Short}
+use Rattle.centralized_telescope.specs.laws.BlocksLaws.{length-bodies, bodies-bytes, sealed-bodies, length-blocks, count-blocks, bodies-blocks, undamaged}
+use Rattle.centralized_telescope.specs.laws.TicketsLaws.{elements-most, element-laid, elements-count, layout-size, layout-within, elements-sound, elements-complete}
 use Rattle.centralized_telescope.specs.Lists.{Each, someOf}
 use Rattle.centralized_telescope.specs.Elements.{Element, numberOf, indexOf}
-use Rattle.centralized_telescope.specs.Blocks.{blockCount, filled, sealed, blocks, bodiesOf, damaged}
-use Rattle.centralized_telescope.specs.Tickets.{elementBytes, elementsBytes, content, ticket, ElementFits, ProofFits, retryIn, searchIn, countIn, elementIn, elementsIn, proofIn, overLimits, isTicket, elementsPart}
+use Rattle.centralized_telescope.specs.Blocks.{blockCount, filled, sealed, blocks, bodies, bodiesOf, damaged}
+use Rattle.centralized_telescope.specs.Tickets.{elementBytes, elementsBytes, content, ticket, ElementFits, ProofFits, blocksIn, retryIn, searchIn, countIn, elementIn, elementsIn, proofIn, overLimits, isTicket, elementsPart}
 use Rattle.centralized_telescope.specs.inner.TicketReading.{headSize, sizeIn, laidOut, allLaidOut, layoutSize, fillingRight}
 
 -- ---- filling
@@ -47,9 +48,9 @@ filled-is s z n e l h =
     let f : 504 * n - length s ≡ length z = omega arith in
     rw (c, f, ← e)
 
--- ---- R, S and the number of elements before the elements
+-- ---- the number of blocks, R, S and the number of elements before the elements
 
-pub content-length : (R S : ℕ) (es : List Element) → length (content R S es) ≡ 20 + length (elementsBytes es)
+pub content-length : (R S : ℕ) (es : List Element) → length (content R S es) ≡ 24 + length (elementsBytes es)
 unfolding content
 content-length R S es = simp (length-append, length-bytesOf) (omega arith)
 
@@ -63,38 +64,41 @@ record FrontIs (R S : ℕ) (es : List Element) (z b : List ℕ) : Type 0 where
 front-is : (R S : ℕ) (es : List Element) (z : List ℕ) → ProofFits R S es → FrontIs R S es z (content R S es ++ z)
 unfolding content
 front-is R S es z fits =
+    let n : List ℕ = bytesOf 4 (blockCount (24 + length (elementsBytes es))) in
     let r : List ℕ = bytesOf 8 R in
     let s : List ℕ = bytesOf 8 S in
     let c : List ℕ = bytesOf 4 (length es) in
     let behind : List ℕ = elementsBytes es ++ z in
-    let lr : length r ≡ 8 = length-bytesOf 8 R in
-    let ls : length s ≡ 8 = length-bytesOf 8 S in
-    let lc : length c ≡ 4 = length-bytesOf 4 (length es) in
+    let all : List ℕ = n ++ (r ++ (s ++ (c ++ behind))) in
     let few = fits .few in
-    let eight : drop 8 (r ++ (s ++ (c ++ behind))) ≡ s ++ (c ++ behind) = drop-at r (s ++ (c ++ behind)) 8 lr in
-    let sixteen : drop 16 (r ++ (s ++ (c ++ behind))) ≡ c ++ behind = sym (drop-drop 8 8 (r ++ (s ++ (c ++ behind)))) ∙ rw eight (drop-at s (c ++ behind) 8 ls) in
-    let twenty : elementsPart (r ++ (s ++ (c ++ behind))) ≡ behind = sym (drop-drop 4 16 (r ++ (s ++ (c ++ behind)))) ∙ rw sixteen (drop-at c behind 4 lc) in
-    let whole : (r ++ (s ++ (c ++ elementsBytes es))) ++ z ≡ r ++ (s ++ (c ++ behind)) = simp append-assoc in
+    let four : drop 4 all ≡ r ++ (s ++ (c ++ behind)) = drop-at n (r ++ (s ++ (c ++ behind))) 4 (length-bytesOf 4 (blockCount (24 + length (elementsBytes es)))) in
+    let twelve : drop 12 all ≡ s ++ (c ++ behind) = sym (drop-drop 8 4 all) ∙ rw four (drop-at r (s ++ (c ++ behind)) 8 (length-bytesOf 8 R)) in
+    let twenty : drop 20 all ≡ c ++ behind = sym (drop-drop 8 12 all) ∙ rw twelve (drop-at s (c ++ behind) 8 (length-bytesOf 8 S)) in
+    let last : elementsPart all ≡ behind = sym (drop-drop 4 20 all) ∙ rw twenty (drop-at c behind 4 (length-bytesOf 4 (length es))) in
+    let whole : (n ++ (r ++ (s ++ (c ++ elementsBytes es)))) ++ z ≡ all = simp append-assoc in
     rw whole
     record {
-      retry = number-found 8 R (s ++ (c ++ behind)) (fits .retry);
-      search = rw eight (number-found 8 S (c ++ behind) (fits .search));
-      count = rw sixteen (number-found 4 (length es) behind (omega arith));
-      behind = twenty;
+      retry = rw four (number-found 8 R (s ++ (c ++ behind)) (fits .retry));
+      search = rw twelve (number-found 8 S (c ++ behind) (fits .search));
+      count = rw twenty (number-found 4 (length es) behind (omega arith));
+      behind = last;
     }
 
-front-again : (b : List ℕ) → Bytes b → 20 ≤ length b
-    → b ≡ bytesOf 8 (retryIn b) ++ (bytesOf 8 (searchIn b) ++ (bytesOf 4 (countIn b) ++ elementsPart b))
+front-again : (b : List ℕ) → Bytes b → 24 ≤ length b
+    → b ≡ bytesOf 4 (blocksIn b) ++ (bytesOf 8 (retryIn b) ++ (bytesOf 8 (searchIn b) ++ (bytesOf 4 (countIn b) ++ elementsPart b)))
 front-again b B l =
     rw (
-      bytes-again 8 b B (omega arith),
-      bytes-again 8 (drop 8 b) (bytes-drop 8 b B) (omega (arith, length-drop 8 b)),
-      bytes-again 4 (drop 16 b) (bytes-drop 16 b B) (omega (arith, length-drop 16 b)),
-      ← drop-drop 4 16 b,
-      take-append-drop 4 (drop 16 b),
-      ← drop-drop 8 8 b,
-      take-append-drop 8 (drop 8 b),
-      take-append-drop 8 b,
+      bytes-again 4 b B (omega arith),
+      bytes-again 8 (drop 4 b) (bytes-drop 4 b B) (omega (arith, length-drop 4 b)),
+      bytes-again 8 (drop 12 b) (bytes-drop 12 b B) (omega (arith, length-drop 12 b)),
+      bytes-again 4 (drop 20 b) (bytes-drop 20 b B) (omega (arith, length-drop 20 b)),
+      ← drop-drop 4 20 b,
+      take-append-drop 4 (drop 20 b),
+      ← drop-drop 8 12 b,
+      take-append-drop 8 (drop 12 b),
+      ← drop-drop 8 4 b,
+      take-append-drop 8 (drop 4 b),
+      take-append-drop 4 b,
     )
 
 -- ---- a ticket is read as it was written
@@ -105,7 +109,7 @@ pub record ReadsAs (R S : ℕ) (es : List Element) (b : List ℕ) : Type 0 where
   pub count : countIn b ≡ length es
   pub laid : allLaidOut (countIn b) (elementsPart b) ≡ true
   pub proof : proofIn b ≡ es
-  pub filling : fillingRight (drop (20 + layoutSize (countIn b) (elementsPart b)) b) ≡ true
+  pub filling : fillingRight (drop (24 + layoutSize (countIn b) (elementsPart b)) b) ≡ true
 
 pub ticket-reads : (R S : ℕ) (es : List Element) → ProofFits R S es → ReadsAs R S es (bodiesOf (ticket R S es))
 unfolding ticket filled fillingRight
@@ -116,7 +120,7 @@ ticket-reads R S es fits =
     let f = front-is R S es z fits in
     let e = elements-complete es z (fits .each) in
     let size : layoutSize (length es) (elementsBytes es ++ z) ≡ length (elementsBytes es) = layout-size (length es) (elementsBytes es ++ z) (e .laid) ∙ rw (e .same) in
-    let behind : drop (20 + length (elementsBytes es)) (s ++ z) ≡ z = drop-at s z (20 + length (elementsBytes es)) (content-length R S es) in
+    let behind : drop (24 + length (elementsBytes es)) (s ++ z) ≡ z = drop-at s z (24 + length (elementsBytes es)) (content-length R S es) in
     let lz : length z ≡ k = length-replicate {A = ℕ} k 0 in
     rw (bodies-blocks s)
     record {
@@ -138,6 +142,13 @@ pub none-over : (es : List Element) → Each ElementFits es → someOf (λ (e : 
 unfolding someOf Each
 none-over [] fits = refl
 none-over (e ∷ es) fits = rw (le-ltb 4096 (length (e .bytes)) (fits .0 .0)) (none-over es (fits .1))
+
+pub none-long-short : (es : List Element) → someOf (λ (e : Element). ltb 4096 (length (e .bytes))) es ≡ false → Each Short es
+unfolding Each someOf
+none-long-short [] h = tt
+none-long-short (e ∷ es) h =
+    let k = neither (ltb 4096 (length (e .bytes))) h in
+    (ltb-false 4096 (length (e .bytes)) (k .0), none-long-short es (k .1))
 
 pub is-ticket : (R S : ℕ) (es : List Element) → ProofFits R S es → isTicket (ticket R S es) ≡ true
 unfolding isTicket
@@ -183,17 +194,50 @@ ticket-said t e =
       same = sym (same-bytes (ticket (retryIn b) (searchIn b) (proofIn b)) t (h .1));
     }
 
--- and of bytes
+-- ---- the number of blocks that is stated
+
+-- four bytes hold the number of any proof's blocks
+blocks-few : (es : List Element) → length es ≤ 65536 → Each Short es → blockCount (24 + length (elementsBytes es)) < 2 ^ 32
+blocks-few es few short = omega (arith, elements-most 4096 es short)
+
+blocks-stated : (R S : ℕ) (es : List Element) → length es ≤ 65536 → Each Short es → blocksIn (bodiesOf (ticket R S es)) ≡ length (ticket R S es) / 512
+unfolding ticket filled content
+blocks-stated R S es few short =
+    let s : List ℕ = content R S es in
+    let l = content-length R S es in
+    rw (bodies-blocks s, count-blocks s)
+    (bigEndian-append 4 s (replicate (504 * blockCount (length s) - length s) 0) (omega arith)
+    ∙ number-found 4 (blockCount (24 + length (elementsBytes es))) _ (blocks-few es few short)
+    ∙ ap blockCount (sym l))
+
+pub ticket-stated : (t : List ℕ) → isTicket t ≡ true → blocksIn (bodiesOf t) ≡ length t / 512
+ticket-stated t e =
+    let b : List ℕ = bodiesOf t in
+    let s = ticket-said t e in
+    subst (λ (u : List ℕ). blocksIn (bodiesOf u) ≡ length u / 512) (sym (s .same))
+    (blocks-stated (retryIn b) (searchIn b) (proofIn b) (s .few) (none-long-short (proofIn b) (s .none-long)))
+
+-- the first bytes of blocks are those of the first body
+pub stated-first : (t : List ℕ) → 512 ≤ length t → blocksIn (bodiesOf t) ≡ bigEndian 4 t
+unfolding bodies
+stated-first t h = go (length t / 512) (omega arith) (omega arith)
+  where
+    go : (n : ℕ) → 1 ≤ n → 512 * n ≤ length t → bigEndian 4 (bodies n t) ≡ bigEndian 4 t
+    go zero a l = absurd (omega arith)
+    go (suc n) a l = number-front 4 504 t (bodies n (drop 512 t)) (omega arith) (omega arith)
+
+-- ---- what the yes says of bytes
+
 pub ticket-is : (t : List ℕ) → Bytes t → isTicket t ≡ true → ProofFits (retryIn (bodiesOf t)) (searchIn (bodiesOf t)) (proofIn (bodiesOf t))
 ticket-is t B e =
     let b : List ℕ = bodiesOf t in
     let C = bodies-bytes (length t / 512) t B in
     let s = ticket-said t e in
     record {
-      retry = bigEndian-below 8 b C;
-      search = bigEndian-below 8 (drop 8 b) (bytes-drop 8 b C);
+      retry = bigEndian-below 8 (drop 4 b) (bytes-drop 4 b C);
+      search = bigEndian-below 8 (drop 12 b) (bytes-drop 12 b C);
       few = s .few;
-      each = elements-fit (countIn b) (elementsPart b) (bytes-drop 20 b C) (s .none-long);
+      each = elements-fit (countIn b) (elementsPart b) (bytes-drop 24 b C) (s .none-long);
     }
 
 -- ---- the reader's tests
@@ -202,6 +246,9 @@ pub ticket-empty : (t : List ℕ) → length t ≡ 0 → isTicket t ≡ false
 ticket-empty t l =
     let b : List ℕ = bodiesOf t in
     refuted (isTicket t) (λ e. omega (arith, ticket-length (retryIn b) (searchIn b) (proofIn b), ap length (ticket-said t e .same)))
+
+pub ticket-miscounted : (t : List ℕ) → (blocksIn (bodiesOf t) ≡ length t / 512 → ⊥) → isTicket t ≡ false
+ticket-miscounted t n = refuted (isTicket t) (λ e. n (ticket-stated t e))
 
 pub ticket-many : (t : List ℕ) → 65536 < countIn (bodiesOf t) → isTicket t ≡ false
 unfolding isTicket
@@ -227,30 +274,48 @@ module _ (t : List ℕ) (B : Bytes t) where
   pub ticket-outside : allLaidOut (countIn b) (elementsPart b) ≡ false → isTicket t ≡ false
   ticket-outside n = refuted (isTicket t) (λ e. not-both (ticket-read e .laid) n)
 
-  pub ticket-filling : fillingRight (drop (20 + layoutSize (countIn b) (elementsPart b)) b) ≡ false → isTicket t ≡ false
+  pub ticket-filling : fillingRight (drop (24 + layoutSize (countIn b) (elementsPart b)) b) ≡ false → isTicket t ≡ false
   ticket-filling n = refuted (isTicket t) (λ e. not-both (ticket-read e .filling) n)
 
   -- where all of them pass
-  module _ (D : damaged t ≡ false) (some-block : length t ≡ 0 → ⊥) (few : countIn b ≤ 65536) (L : allLaidOut (countIn b) (elementsPart b) ≡ true) where
+  module _ (D : damaged t ≡ false) (some-block : length t ≡ 0 → ⊥) (counted : blocksIn b ≡ length t / 512) (few : countIn b ≤ 65536) (L : allLaidOut (countIn b) (elementsPart b) ≡ true) where
     abbrev filling : List ℕ
-    filling = drop (20 + layoutSize (countIn b) (elementsPart b)) b
+    filling = drop (24 + layoutSize (countIn b) (elementsPart b)) b
 
     bodies-long : length b ≡ 504 * (length t / 512)
     bodies-long = length-bodies (length t / 512) t (omega (arith, undamaged t D .size))
 
-    content-again : b ≡ content (retryIn b) (searchIn b) (proofIn b) ++ filling
+    bodies-some : 24 ≤ length b
+    bodies-some = let w = undamaged t D .size in let n : length t / 512 ≡ 0 → length t ≡ 0 = λ q. omega arith in omega (arith, bodies-long)
+
+    -- less than a body of filling: the elements take as many blocks as there are
+    count-again : length filling ≤ 503 → blocksIn b ≡ blockCount (24 + length (elementsBytes (proofIn b)))
+    count-again f =
+        omega (
+          arith,
+          counted,
+          bodies-long,
+          bodies-some,
+          layout-size (countIn b) (elementsPart b) L,
+          layout-within (countIn b) (elementsPart b) L,
+          length-drop 24 b,
+          length-drop (24 + layoutSize (countIn b) (elementsPart b)) b,
+        )
+
+    content-again : length filling ≤ 503 → b ≡ content (retryIn b) (searchIn b) (proofIn b) ++ filling
     unfolding content
-    content-again =
+    content-again f =
         let C = bodies-bytes (length t / 512) t B in
-        let l : 20 ≤ length b = let w = undamaged t D .size in let n : length t / 512 ≡ 0 → length t ≡ 0 = λ q. omega arith in omega (arith, bodies-long) in
-        front-again b C l
+        front-again b C bodies-some
         ∙ rw (
+          ← count-again f,
           elements-count (countIn b) (elementsPart b),
-          ← drop-drop (layoutSize (countIn b) (elementsPart b)) 20 b,
+          ← drop-drop (layoutSize (countIn b) (elementsPart b)) 24 b,
+          append-assoc (bytesOf 4 (blocksIn b)),
           append-assoc (bytesOf 8 (retryIn b)),
           append-assoc (bytesOf 8 (searchIn b)),
           append-assoc (bytesOf 4 (countIn b)),
-          ← elements-sound (countIn b) (elementsPart b) (bytes-drop 20 b C) L,
+          ← elements-sound (countIn b) (elementsPart b) (bytes-drop 24 b C) L,
         )
 
     pub ticket-found : fillingRight filling ≡ true → isTicket t ≡ true
@@ -260,7 +325,9 @@ module _ (t : List ℕ) (B : Bytes t) where
         let s : List ℕ = content (retryIn b) (searchIn b) es in
         let f = both (leb (length filling) 503) F in
         let w = undamaged t D in
+        let l = leb-true (length filling) 503 (f .0) in
+        let again = content-again l in
         let same : blocks s ≡ t =
-        filled-is s filling (length t / 512) (all-zeros filling (not-true _ (f .1))) (leb-true (length filling) 503 (f .0)) (rw (← content-again) bodies-long)
-        ∙ rw (← content-again) (sealed-bodies (length t / 512) t (w .size) (w .checks)) in
+        filled-is s filling (length t / 512) (all-zeros filling (not-true _ (f .1))) l (rw (← again) bodies-long)
+        ∙ rw (← again) (sealed-bodies (length t / 512) t (w .size) (w .checks)) in
         rw (same, bytes-same t, all-short (countIn b) (elementsPart b) L, le-ltb 65536 (length es) (omega (arith, elements-count (countIn b) (elementsPart b))))

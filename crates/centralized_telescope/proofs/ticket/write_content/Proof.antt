@@ -1,8 +1,11 @@
--- `write_content`: the head, then the elements behind it.
-use mathlib.Core.Path.{ap, _∙_}
+-- `write_content`: the number of blocks, the head behind it, then the elements.
+use mathlib.Core.Path.{_≡_, sym, ap, _∙_}
+use Prim.Native.Nat.{ℕ, _≤_}
 use native.Mathlib.Omega.{arith}
 use borrow.Author.Needs.{needs}
 use lib.ListN.{length}
+use lib.Seq.{length-take-le}
+use Rattle.sampling.specs.BigEndian.{bytesOf}
 use Rattle.centralized_telescope.specs.Elements.{elements}
 use Rattle.centralized_telescope.specs.laws.ElementsLaws.{length-elements}
 use Rattle.centralized_telescope.specs.laws.TicketsReadLaws.{content-length}
@@ -10,31 +13,52 @@ use Rattle.centralized_telescope.proofs.TicketWriting.{length-headOf, c
 use Rattle.centralized_telescope.proofs.ticket.write_content.Statement.{statement}
 use Rattle.centralized_telescope.proofs.ticket.write_content.Tie as tie
 
+-- what stands before the elements has room
+room : (o : tie.Start) → 24 ≤ length (o .args .out .now)
+room o =
+    let z = o .args in
+    omega (arith, o .pre .2, content-length (z .retry .0) (z .search .0) (elements (z .«data» .now) (z .ends .now) (z .marks .now) (z .indexes .now)))
+
+-- and four bytes of it are written
+stated : (s : tie.After-write-number) → s .write-number .last .1 .0 ≡ bytesOf 4 (s .before .before .before .before .before .before .before .before .args .blocks)
+stated s =
+    let z = s .before .before .before .before .before .before .before .before .args in
+    s .write-number .ensures ∙ ap (λ (k : ℕ). bytesOf k (z .blocks)) (length-take-le 4 (z .out .now) (omega (arith, room (s .before .before .before .before .before .before .before .before))))
+
 content-head-requires : tie.Need-content-head-requires
 content-head-requires c κs = search needs
+
+slice-relend-prefix-write-number : tie.Need-slice-relend-prefix-write-number
+slice-relend-prefix-write-number c = omega (arith, room (c .before .before .before .before .before .before))
+
+slice-aggregate-write-number : tie.Need-slice-aggregate-write-number
+slice-aggregate-write-number c = sym (length-take-le 4 (c .before .before .before .before .before .before .before .args .out .now) (omega (arith, room (c .before .before .before .before .before .before .before))))
+
+write-number-requires : tie.Need-write-number-requires
+write-number-requires c κs = search needs
 
 slice-aggregate-copy-at : tie.Need-slice-aggregate-copy-at
 slice-aggregate-copy-at c = search needs
 
 copy-at-requires : tie.Need-copy-at-requires
 copy-at-requires c κs =
-    let o = c .before .before .before .before .before .before .before .before in
+    let o = c .before .before .before .before .before .before .before .before .before .before .before .before in
     let z = o .args in
     omega (
       arith,
-      o .pre .1,
-      ap length (c .before .before .content-head .ensures) ∙ length-headOf (z .retry .0) (z .search .0) (length (z .ends .now)),
+      o .pre .2,
+      ap length (c .before .before .before .before .before .before .content-head .ensures) ∙ length-headOf (z .retry .0) (z .search .0) (length (z .ends .now)),
       content-length (z .retry .0) (z .search .0) (elements (z .«data» .now) (z .ends .now) (z .marks .now) (z .indexes .now)),
     )
 
 write-elements-bytes-requires : tie.Need-write-elements-bytes-requires
 write-elements-bytes-requires c κs =
-    let o = c .before .before .before .before .before .before .before .before .before .before .before .before in
+    let o = c .before .before .before .before .before .before .before .before .before .before .before .before .before .before .before .before in
     let z = o .args in (
       o .pre .0,
       omega (
         arith,
-        o .pre .1,
+        o .pre .2,
         c .before .before .before .copy-at .kept .1 .1 .0,
         content-length (z .retry .0) (z .search .0) (elements (z .«data» .now) (z .ends .now) (z .marks .now) (z .indexes .now)),
       ),
@@ -45,17 +69,20 @@ same-length c = search needs
 
 returns : tie.Need-returns
 returns c =
-    let o = c .before .before .before .before .before .before .before .before .before .before .before .before .before .before .before in
+    let o = c .before .before .before .before .before .before .before .before .before .before .before .before .before .before .before .before .before .before .before in
     let z = o .args in
-    content-put (z .retry .0) (z .search .0) _ (elements (z .«data» .now) (z .ends .now) (z .marks .now) (z .indexes .now))
+    content-put (z .blocks) (z .retry .0) (z .search .0) _ (elements (z .«data» .now) (z .ends .now) (z .marks .now) (z .indexes .now)) (o .pre .1)
     (length-elements (z .«data» .now) (z .ends .now) (z .marks .now) (z .indexes .now) (o .pre .0))
-    (z .out .now) _ _ _ (c .before .before .before .before .before .before .before .before .before .content-head .ensures) (c .before .before .before .before .before .before .copy-at .ensures) (c .before .before .write-elements-bytes .ensures)
+    (z .out .now) _ _ _ _ (stated (c .before .before .before .before .before .before .before .before .before .before .before)) (c .before .before .before .before .before .before .before .before .before .before .before .before .before .content-head .ensures) (c .before .before .before .before .before .before .copy-at .ensures) (c .before .before .write-elements-bytes .ensures)
 
 pub write-content-spec : {M : Type 1} → statement M
 write-content-spec =
     tie.close
     (tie.spec
     content-head-requires
+    slice-relend-prefix-write-number
+    slice-aggregate-write-number
+    write-number-requires
     slice-aggregate-copy-at
     copy-at-requires
     write-elements-bytes-requires

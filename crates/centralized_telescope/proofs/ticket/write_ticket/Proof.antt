@@ -1,10 +1,11 @@
 -- `write_ticket`: the refusals in their order; else the content, its filling, and the blocks made of them.
 use mathlib.Core.Path.{_≡_, sym, ap, _∙_}
-use Prim.Native.Nat.{_+_, _≤_}
+use Prim.Native.Nat.{ℕ, _+_, _≤_}
 use native.Mathlib.Omega.{arith}
 use borrow.Author.Needs.{needs}
 use lib.ListN.{length}
 use Rattle.centralized_telescope.specs.Elements.{elements, listCheck, listNumber}
+use Rattle.centralized_telescope.specs.Blocks.{blockCount}
 use Rattle.centralized_telescope.specs.Tickets.{content}
 use Rattle.centralized_telescope.specs.laws.ElementsLaws.{few-elements}
 use Rattle.centralized_telescope.specs.laws.TicketsReadLaws.{content-length}
@@ -16,8 +17,8 @@ use Rattle.centralized_telescope.proofs.ticket.write_ticket.Tie as tie
 accepted : (s : tie.After-enum-told) → listCheck (s .before .before .before .before .before .before .before .before .args .«data» .now) (s .before .before .before .before .before .before .before .before .args .ends .now) (s .before .before .before .before .before .before .before .before .args .marks .now) (s .before .before .before .before .before .before .before .before .args .indexes .now) ≡ 0
 accepted s = sym (s .before .before .check-list .ensures) ∙ ap listNumber (s .enum-told .given .1)
 
--- 20 and the size that was worked out are the content's length
-size-is : (s : tie.After-elements-size) → 20 + s .elements-size .result
+-- 24 and the size that was worked out are the content's length
+size-is : (s : tie.After-elements-size) → 24 + s .elements-size .result
     ≡ length (content (s .before .before .before .before .before .before .before .before .before .args .retry-counter .0) (s .before .before .before .before .before .before .before .before .before .args .search-counter .0) (elements (s .before .before .before .before .before .before .before .before .before .args .«data» .now) (s .before .before .before .before .before .before .before .before .before .args .ends .now) (s .before .before .before .before .before .before .before .before .before .args .marks .now) (s .before .before .before .before .before .before .before .before .before .args .indexes .now)))
 size-is s =
     let z = s .before .before .before .before .before .before .before .before .before .args in
@@ -64,7 +65,11 @@ returns-2 c =
     (accepted (c .before .before)) _ (size-is (c .before)) (c .if1 .taken)
 
 write-content-requires : tie.Need-write-content-requires
-write-content-requires c κs = (accepted (c .before .before .before), omega (arith, size-is (c .before .before), c .before .if1 .left))
+write-content-requires c κs = (
+  accepted (c .before .before .before),
+  ap (λ (k : ℕ). blockCount (24 + k)) (c .before .before .elements-size .ensures .0),
+  omega (arith, size-is (c .before .before), c .before .if1 .left),
+)
 
 mul-fill-zeros : tie.Need-mul-fill-zeros
 mul-fill-zeros c = search needs
