@@ -16,7 +16,7 @@
 enum { ROOM = 1 << 20, PAINT = 0xa5, SIZE = ALBA_MAX_PROOF_SIZE, BYTES = ALBA_MAX_DATA_BYTES };
 
 /* What telescope.h says that it takes. */
-enum { SAID = 20000 };
+enum { SAID = 3000 };
 
 static const uint64_t proof_sizes[] = {0, 1, 100, SIZE};
 
@@ -76,5 +76,5 @@ int main(void) {
         printf("%s %zu bytes at proof_size %" PRIu64, i == 0 ? "" : ",", taken, proof_size);
     }
     printf(", with %d data bytes an element\n", BYTES);
-    return most <= SAID ? 0 : 1;
+    return most < SAID ? 0 : 1;
 }

@@ -1,7 +1,7 @@
 /*
- * The centralized telescope's sampler and verifier, for C and C++. Link libsampling.a for the sampler and for the call that makes the
- * threshold X from a probability, and libcentralized_telescope.a for the verifier (x86-64, ELF). The first needs no library, the second
- * memcpy and memset of C's own.
+ * The centralized telescope's sampler and verifier, for C and C++. For x86-64 (ELF) link libsampling.a for the sampler and for the call
+ * that makes the threshold X from a probability, and libcentralized_telescope.a for the verifier; the first needs no library, the second
+ * memcpy of C's own. For any machine compile telescope.c of the folder dist, which has all four calls, with a C99 compiler.
  *
  * No function has a precondition on its values: each input gets one of the answers below. A pointer must be valid for the length
  * that follows it, for reads (const) or for writes; with length 0 it may be null. What is lent for writing must not overlap what is
@@ -135,15 +135,16 @@ uint32_t alba_threshold(double q, uint64_t *out, size_t out_len);
  * ends            4 bytes for each element, big-endian: where its data stops, counted from the start of data; the first element's
  *                 starts at 0, each other's where the one's before it stops
  * marks           a byte for each element: 1 if it has an index, else 0
- * indexes         8 bytes for each element, big-endian: its index; not looked at where the mark is 0
+ * indexes         8 bytes for each element, big-endian: its index; of no account where the mark is 0
  *
  * Each ..._len is a count of bytes, so ends_len is 4 times and indexes_len 8 times marks_len.
  *
  * Answers the first of these that it meets: ALBA_BAD_SET_SIZE; ALBA_BAD_LIMIT; ALBA_MALFORMED, if ends_len is no multiple of 4 or
  * indexes_len none of 8, if the counts differ, if a mark is over 1, or if an end is before the one before it or past data_len;
  * ALBA_TOO_LARGE; ALBA_INCORRECT_NUMBER_ELEMENTS; ALBA_INVALID_PARAMETERS; ALBA_INVALID_PROOF. Else ALBA_ACCEPTED.
- * It takes time in proportion to what it is lent, and less than 20,000 bytes of stack: 14,788 at most were measured, whatever proof_size
- * is (c/stack.c, with symbols bound before; a first call in which memcpy and memset are still looked up takes some 2,500 more).
+ * It takes time in proportion to what it is lent. The archive's takes less than 3,000 bytes of stack: 2,532 at most were measured, whatever
+ * proof_size is (c/stack.c, with symbols bound before; a first call in which memcpy is still looked up took 4,920). What telescope.c takes on
+ * a small machine stands in README.md, at the end of "On another machine".
  */
 uint32_t alba_verify(uint64_t set_size, uint64_t proof_size, uint64_t max_retries, uint64_t search_width, uint64_t dfs_bound,
                      uint64_t x_high, uint64_t x_low, uint64_t retry_counter, uint64_t search_counter, const uint8_t *data, size_t data_len,

@@ -198,7 +198,7 @@ static void parameters(void) {
     uniform("h and out exchanged, each with its length", h, 8, 20, 16, ALBA_BAD_LENGTH, 0);
     bernoulli("the same bytes, a high word of 02 and a low one of 1: yes", h, 16, UINT64_C(0x0200000000000000), 1, ALBA_YES);
     bernoulli("x_high and x_low exchanged", h, 16, 1, UINT64_C(0x0200000000000000), ALBA_NO);
-    bernoulli("h_len and x_high exchanged", h, UINT64_C(0x0200000000000000), 16, 1, ALBA_BAD_LENGTH);
+    bernoulli("h_len and x_high exchanged", h, (size_t)UINT64_C(0x0200000000000000), 16, 1, ALBA_BAD_LENGTH);
     bernoulli("h_len and x_low exchanged", h, 1, UINT64_C(0x0200000000000000), 16, ALBA_BAD_LENGTH);
 }
 

@@ -1,67 +1,71 @@
 -- The chain of a proof's elements, followed a place at a time: what one place settles, and what it leaves to the places behind it.
-use mathlib.Core.Path.{_≡_, ap, sym, _∙_}
+use mathlib.Core.Path.{_≡_, refl, sym, subst, _∙_}
+use mathlib.Core.Bool.{true, false}
 use mathlib.Core.Option.{Option, none, some}
 use mathlib.Core.List.{List, [], _∷_}
 use Prim.Native.Nat.{ℕ, suc, _+_, _≤_, _<_}
 use native.Mathlib.Numerals.{add-one}
-use borrow.Author.Tests.{eq-eqb, ne-eqb}
+use lib.Dec.{T}
 use lib.ListN.{length, drop, drop-of-length-le}
 use lib.Seq.{drop-cons}
+use Rattle.sampling.specs.declared.sample.U128.{U128}
 use Rattle.centralized_telescope.specs.declared.params.Params.{Params}
-use Rattle.centralized_telescope.specs.declared.round.Id.{Id}
-use Rattle.centralized_telescope.specs.declared.round.Id.the-variants as id
 use Rattle.centralized_telescope.specs.Elements.{Element, elementAt}
 use Rattle.centralized_telescope.specs.Rounds.{startHash, nextHash, roundId, binOf}
-use Rattle.centralized_telescope.specs.Verifier.{ifSome, follow, lastHash}
-use Rattle.centralized_telescope.specs.inner.RoundAnswers.{idOption}
-
--- what an answer of the code says of the draw d
-pub nowhere : (a : Id) (d : Option ℕ) → idOption a ≡ d → a ≡ id.Nowhere → d ≡ none
-nowhere a d e k = sym e ∙ ap idOption k
-
-pub somewhere : (a : Id) (d : Option ℕ) (i : ℕ) → idOption a ≡ d → a ≡ id.At i → d ≡ some i
-somewhere a d i e k = sym e ∙ ap idOption k
+use Rattle.centralized_telescope.specs.Verifier.{ifSome, follow, lastHash, yesOn}
+use Rattle.centralized_telescope.specs.inner.Following.{isNowhere, isMet, followedFrom}
 
 element-next : (es : List Element) (place : ℕ) → place < length es → drop place es ≡ elementAt es place ∷ drop (suc place) es
 unfolding elementAt
 element-next es place l = drop-cons es place (record { bytes = []; index = none }) l
 
-module _ (p : Params) (R : ℕ) (es : List Element) where
+module _ (p : Params) (R : ℕ) where
   abbrev N : ℕ
   N = p .«set_size»
 
-  -- ---- the start round
+  -- ---- one round
 
-  module _ (S : ℕ) (h : List ℕ) (eh : h ≡ startHash R S) where
-    pub no-start : roundId N h ≡ none → lastHash p R S es ≡ none
-    unfolding lastHash ifSome
-    no-start d = rw (← eh, d)
+  -- the start round, with the hash h
+  pub from-start : (S : ℕ) (h : List ℕ) → h ≡ startHash R S → (g : List ℕ) (o : Option ℕ) → (g ≡ h) × (o ≡ roundId N h) → (es : List Element) → followedFrom p R g o es ≡ lastHash p R S es
+  unfolding lastHash
+  from-start S h e g o r es = rw (r .0, r .1, e)
 
-    pub from-start : (i : ℕ) → roundId N h ≡ some i → lastHash p R S es ≡ follow p R h i es
-    unfolding lastHash ifSome
-    from-start i d = rw (← eh, d)
+  -- the round behind the one with the hash h and the id o, by an element with the bin b
+  module _ (h : List ℕ) (b : Option ℕ) (e : Element) (B : b ≡ binOf N R e) (es : List Element) where
+    after-met : (o : Option ℕ) → isMet b o ≡ true → followedFrom p R (nextHash h e) (roundId N (nextHash h e)) es ≡ followedFrom p R h o (e ∷ es)
+    unfolding follow ifSome
+    after-met none t = absurd (subst T (sym t) tt)
+    after-met (some i) t = rw (← B, t)
 
-  -- ---- the element at a place, behind a round with the hash h and the id i
+    pub bin-met : (o : Option ℕ) → isMet b o ≡ true → (g : List ℕ) → g ≡ nextHash h e → (f : List ℕ) (j : Option ℕ) → (f ≡ g) × (j ≡ roundId N g)
+        → followedFrom p R f j es ≡ followedFrom p R h o (e ∷ es)
+    bin-met o t g G f j r = rw (r .0, r .1, G) (after-met o t)
 
-  pub chain-ends : (h : List ℕ) (i place : ℕ) → length es ≤ place → follow p R h i (drop place es) ≡ some h
-  unfolding follow
-  chain-ends h i place l = rw (drop-of-length-le es {i = place} l)
+    pub bin-missed : (o : Option ℕ) → isMet b o ≡ false → (f : List ℕ) → followedFrom p R f none es ≡ followedFrom p R h o (e ∷ es)
+    unfolding follow ifSome
+    bin-missed none t f = refl
+    bin-missed (some i) t f = rw (← B, t)
 
-  module _ (h : List ℕ) (i place : ℕ) (l : place < length es) where
-    pub no-bin : binOf N R (elementAt es place) ≡ none → follow p R h i (drop place es) ≡ none
-    unfolding follow
-    no-bin b = rw (element-next es place l, b)
+  -- no round, and the end of the chain
+  pub nowhere : (h : List ℕ) (o : Option ℕ) → isNowhere o ≡ true → (es : List Element) → followedFrom p R h o es ≡ none
+  unfolding ifSome
+  nowhere h none t es = refl
+  nowhere h (some i) t es = absurd (subst T (sym t) tt)
 
-    module _ (bin : ℕ) (b : binOf N R (elementAt es place) ≡ some bin) where
-      pub other-bin : (bin ≡ i → ⊥) → follow p R h i (drop place es) ≡ none
-      unfolding follow
-      other-bin n = rw (element-next es place l, b, ne-eqb bin i n)
+  pub at-end : (h : List ℕ) (o : Option ℕ) → isNowhere o ≡ false → followedFrom p R h o [] ≡ some h
+  unfolding follow ifSome
+  at-end h none t = absurd (subst T t tt)
+  at-end h (some i) t = refl
 
-      module _ (same : bin ≡ i) (g : List ℕ) (eg : g ≡ nextHash h (elementAt es place)) where
-        pub no-round : roundId N g ≡ none → follow p R h i (drop place es) ≡ none
-        unfolding follow ifSome
-        no-round d = rw (element-next es place l, b, eq-eqb bin i same, ← eg, d)
+  -- ---- the last hash x of the chain, seen from the round reached, behind which the elements from a place on are left
 
-        pub next-round : (j : ℕ) → roundId N g ≡ some j → follow p R h i (drop place es) ≡ follow p R g j (drop (place + 1) es)
-        unfolding follow ifSome
-        next-round j d = rw (add-one, element-next es place l, b, eq-eqb bin i same, ← eg, d)
+  module _ (h : List ℕ) (o : Option ℕ) (es : List Element) (place : ℕ) (x : Option (List ℕ)) (F : followedFrom p R h o (drop place es) ≡ x) where
+    pub chain-lost : isNowhere o ≡ true → (y : U128) → false ≡ yesOn y x
+    chain-lost t y = rw (sym F ∙ nowhere h o t (drop place es))
+
+    pub one-followed : place < length es → (e : Element) → e ≡ elementAt es place → (g : List ℕ) (j : Option ℕ)
+        → ((rest : List Element) → followedFrom p R g j rest ≡ followedFrom p R h o (e ∷ rest)) → followedFrom p R g j (drop (place + 1) es) ≡ x
+    one-followed l e E g j r = rw (add-one place) (r (drop (suc place) es) ∙ rw (E, ← element-next es place l) F)
+
+    pub all-followed : length es ≤ place → followedFrom p R h o [] ≡ x
+    all-followed l = rw (drop-of-length-le es {i = place} l) at F

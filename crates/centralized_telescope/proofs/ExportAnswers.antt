@@ -1,27 +1,27 @@
 -- The exported verdict by its tests, in the table's order: e and k are the bytes of ends and indexes.
-use mathlib.Core.Path.{_≡_, refl, ap, sym, _∙_}
+use mathlib.Core.Path.{_≡_, refl, sym, _∙_}
 use mathlib.Core.Bool.{Bool, true, false, cond, _&&_}
-use mathlib.Core.List.{List, [], _∷_, _++_}
-use Prim.Native.Nat.{ℕ, _/_, _%_, _≤_, _<_}
+use mathlib.Core.List.{List, [], _∷_}
+use Prim.Native.Nat.{ℕ, _+_, _-_, _/_, _%_, _≤_, _<_}
+use native.Mathlib.Numerals.{add-one}
 use native.Mathlib.Omega.{arith}
 use borrow.Author.Tests.{eq-eqb, ne-eqb}
-use lib.ListN.{length, take, length-append}
-use lib.Seq.{length-take-le, take-at}
+use lib.ListN.{length, take, drop, getD}
 use Rattle.centralized_telescope.specs.declared.errors.Refusal.{Refusal}
 use Rattle.centralized_telescope.specs.declared.errors.Refusal.the-variants as refusal
 use Rattle.centralized_telescope.specs.declared.params.Params.{Params}
 use Rattle.centralized_telescope.specs.Refusals.{refusalNumber}
 use Rattle.centralized_telescope.specs.laws.RefusalsLaws.{refusal-number}
-use Rattle.centralized_telescope.specs.Elements.{elements, listCheck}
-use Rattle.centralized_telescope.specs.laws.ElementsLaws.{length-elements, same-marks, same-indexes}
+use Rattle.centralized_telescope.specs.Elements.{elements, elementAt, endWrong, listCheck}
+use Rattle.centralized_telescope.specs.laws.ElementsLaws.{length-elements, same-marks, same-indexes, ends-right, start-before-end, end-within, own-short, lent-there}
+use Rattle.centralized_telescope.specs.inner.ListReading.{startAt, dataAt, lent}
 use Rattle.centralized_telescope.specs.Lists.{firstNumber}
 use Rattle.centralized_telescope.specs.laws.ListsLaws.{number-met, second-met}
 use Rattle.centralized_telescope.specs.Params.{checked}
-use Rattle.centralized_telescope.specs.laws.ParamsLaws.{lawful}
-use Rattle.centralized_telescope.specs.Verifier.{judged, verdict}
+use Rattle.centralized_telescope.specs.Verifier.{verdict}
 use Rattle.centralized_telescope.specs.Exports.{numbersOf, isWholeCount, exportedVerdict}
 use Rattle.centralized_telescope.proofs.NumbersRead.{length-numbersIn}
-use Rattle.centralized_telescope.proofs.VerdictAnswers.{other-length, settings-refused}
+use Rattle.centralized_telescope.proofs.VerdictAnswers.{settings-refused}
 
 -- of an accepted list, ends and indexes have as many numbers as there are marks
 module _ (d e m k : List ℕ) (A : listCheck d (numbersOf 4 e) m (numbersOf 8 k) ≡ 0) where
@@ -31,13 +31,44 @@ module _ (d e m k : List ℕ) (A : listCheck d (numbersOf 4 e) m (numbersOf 8 k)
   pub indexes-many : length (numbersOf 8 k) ≡ length m
   indexes-many = sym (same-indexes d (numbersOf 4 e) m (numbersOf 8 k) A) ∙ ends-many
 
-  -- and a room z for so many has its front of that length
-  module _ (z : List ℕ) (h : length m ≤ length z) where
-    pub ends-room : length (take (length m) z) ≡ length e / 4
-    ends-room = length-take-le (length m) z h ∙ sym ends-many ∙ length-numbersIn (length e / 4) 4 e
+  pub elements-many : length (elements d (numbersOf 4 e) m (numbersOf 8 k)) ≡ length m
+  elements-many = length-elements d (numbersOf 4 e) m (numbersOf 8 k) A ∙ ends-many
 
-    pub indexes-room : length (take (length m) z) ≡ length k / 8
-    indexes-room = length-take-le (length m) z h ∙ sym indexes-many ∙ length-numbersIn (length k / 8) 8 k
+  -- and each mark's place has both
+  module _ (i : ℕ) (h : i < length m) where
+    pub end-within-bytes : i < length e / 4
+    end-within-bytes = omega (arith, ends-many, length-numbersIn (length e / 4) 4 e)
+
+    pub index-within-bytes : i < length k / 8
+    index-within-bytes = omega (arith, indexes-many, length-numbersIn (length k / 8) 8 k)
+
+    inside : i < length (numbersOf 4 e)
+    inside = omega (arith, ends-many)
+
+    -- the element's data are from the end before it, its start, to its own end
+    module _ (start end : ℕ) (s : start ≡ startAt (numbersOf 4 e) i) (t : end ≡ getD (numbersOf 4 e) i 0) where
+      abbrev own : List ℕ
+      own = take (end - start) (drop start d)
+
+      risen : endWrong 0 (length d) (numbersOf 4 e) ≡ false
+      risen = ends-right d (numbersOf 4 e) m (numbersOf 8 k) A
+
+      pub own-fits : (start ≤ end) × (end ≤ length d)
+      own-fits = (rw (s, t) (start-before-end d (numbersOf 4 e) risen i inside), rw t (end-within d (numbersOf 4 e) risen i inside))
+
+      own-read : own ≡ dataAt d (numbersOf 4 e) i
+      unfolding dataAt
+      own-read = rw (s, t)
+
+      pub own-few : length own ≤ 4096
+      own-few = own-short d (numbersOf 4 e) m (numbersOf 8 k) A i inside own own-read
+
+      pub element-read : (v : ℕ) → v ≡ getD (numbersOf 8 k) i 0 → lent own (getD m i 0) v ≡ elementAt (elements d (numbersOf 4 e) m (numbersOf 8 k)) i
+      element-read v w = lent-there d (numbersOf 4 e) m (numbersOf 8 k) A i inside own (getD m i 0) v own-read refl w
+
+      pub next-start : end ≡ startAt (numbersOf 4 e) (i + 1)
+      unfolding startAt
+      next-start = rw (add-one i) t
 
 module _ (p : Params) (R S : ℕ) (d e m k : List ℕ) where
   pub bytes-settings-refused : (r : Refusal) → checked p ≡ refusalNumber r → refusalNumber r ≡ exportedVerdict p R S d e m k
@@ -64,29 +95,3 @@ module _ (p : Params) (R S : ℕ) (d e m k : List ℕ) where
       → verdict p R S d (numbersOf 4 e) m (numbersOf 8 k) ≡ exportedVerdict p R S d e m k
   unfolding exportedVerdict
   whole-counts E K = rw (eq-eqb (length e % 4) 0 E, eq-eqb (length k % 8) 0 K)
-
--- no proof_size is over 1,024
-pub over-room : (p : Params) (R S : ℕ) (d n m k : List ℕ) → checked p ≡ 0 → listCheck d n m k ≡ 0 → 1024 < length m
-    → 20 ≡ judged p R S (elements d n m k)
-over-room p R S d n m k c A h =
-    other-length p R S (elements d n m k) (λ e. omega (arith, e, length-elements d n m k A, same-marks d n m k A, lawful p c .limits .proof-size))
-
--- ---- numbers ns that are read into the first n places of a room, of which `rest` stays as it was
-
-module _ (n : ℕ) (read rest ns : List ℕ) (E : read ≡ ns) (L : length ns ≡ n) where
-  pub front : take n (read ++ rest) ≡ ns
-  front = take-at read rest n (ap length E ∙ L) ∙ E
-
-  pub front-fits : n ≤ length (read ++ rest)
-  front-fits = simp length-append (omega (arith, ap length E))
-
-  pub front-length : n ≡ length (take n (read ++ rest))
-  front-length = rw front (sym L)
-
--- both lists of numbers
-module _ (n : ℕ) (d m ends rest ns indexes rest' ks : List ℕ) (E : ends ≡ ns) (K : indexes ≡ ks) (L : length ns ≡ n) (M : length ks ≡ n) where
-  pub fronts-accepted : listCheck d ns m ks ≡ 0 → listCheck d (take n (ends ++ rest)) m (take n (indexes ++ rest')) ≡ 0
-  fronts-accepted a = rw (front n ends rest ns E L, front n indexes rest' ks K M) a
-
-  pub fronts-judged : (p : Params) (R S : ℕ) → judged p R S (elements d (take n (ends ++ rest)) m (take n (indexes ++ rest'))) ≡ judged p R S (elements d ns m ks)
-  fronts-judged p R S = rw (front n ends rest ns E L, front n indexes rest' ks K M)

@@ -39,9 +39,10 @@ pub start-is : (t s r : List ℕ) (R S : ℕ) → t ≡ bytesOf 8 R → s ≡ by
 unfolding startHash
 start-is t s r R S T U e = rw (← T, ← U, ← append-nil s) e
 
--- own data and index make the tail
-pub tail-is : (l f o x a b t r : List ℕ) → o ≡ a → x ≡ b → t ≡ a ++ b → r ≡ sha256 (l ++ (f ++ (o ++ x))) → r ≡ sha256 (l ++ (f ++ t))
-tail-is l f o x a b t r O X T e = rw (T, ← O, ← X) e
+-- an element's data and its index make the tail
+pub tail-is : (l f x r : List ℕ) (e : Element) → x ≡ indexBytes (e .index) → r ≡ sha256 (l ++ (f ++ (e .bytes ++ x))) → r ≡ sha256 (l ++ (f ++ tail e))
+unfolding tail
+tail-is l f x r e X q = rw (← X) q
 
 -- what is drawn from that digest is the bin
 pub bin-is : (o : Option ℕ) (d t : List ℕ) (n R : ℕ) (e : Element) → o ≡ drawnBelow n d → d ≡ sha256 (binLabel ++ (t ++ tail e)) → t ≡ bytesOf 8 R → o ≡ binOf n R e

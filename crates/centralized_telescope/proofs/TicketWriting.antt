@@ -16,9 +16,8 @@ use Rattle.centralized_telescope.specs.Lists.{over}
 use Rattle.centralized_telescope.specs.Blocks.{blockCount}
 use Rattle.centralized_telescope.specs.Tickets.{headBytes, elementBytes, elementsBytes, content}
 use Rattle.centralized_telescope.specs.inner.ListReading.{dataAt, indexAt}
-use Rattle.centralized_telescope.specs.laws.ElementsLaws.{data-there, index-there, length-elements, data-short}
+use Rattle.centralized_telescope.specs.laws.ElementsLaws.{index-again, data-there, index-there, length-elements, data-short}
 use Rattle.centralized_telescope.specs.laws.ListsLaws.{take-over}
-use Rattle.centralized_telescope.specs.laws.ProofListLaws.{index-again}
 use Rattle.centralized_telescope.specs.laws.TicketsLaws.{length-element}
 use Rattle.centralized_telescope.proofs.ProofWriting.{over-append}
 

@@ -1,6 +1,7 @@
 -- What inner functions promise each other.
 pub mod ListReading
 pub mod RoundAnswers
+pub mod Following
 pub mod BinPasses
 pub mod Walk
 pub mod Visit

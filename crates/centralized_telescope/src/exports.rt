@@ -1,10 +1,10 @@
 // The verifier as C and Rust call it: settings one by one, ends and indexes as lent bytes, and the answer is a number.
 ghost use mathlib.Core.Path.{_≡_};
 ghost use mathlib.Core.Bool.{_||_};
-ghost use Prim.Native.Nat.{_/_, _<_, _≤_};
+ghost use Prim.Native.Nat.{_/_, _<_};
 ghost use lib.ListN.{length, getD};
 ghost use Rattle.centralized_telescope.specs.Elements.{elements, endWrong, dataLong, listCheck, listNumber};
-ghost use Rattle.centralized_telescope.specs.Verifier.{judged, verdictNumber};
+ghost use Rattle.centralized_telescope.specs.Verifier.{lastHash, yesOn, judged, verdictNumber};
 ghost use Rattle.centralized_telescope.specs.Exports.{settingsOf, numbersOf, exportedVerdict};
 use crate::errors::Refusal;
 use crate::numbers::number;
@@ -13,10 +13,16 @@ use crate::params::Checked;
 use crate::params::Params;
 use crate::params::check_params;
 use crate::proof::Verdict;
-use crate::proof::judge;
+use crate::proof::first_round;
+use crate::proof::is_nowhere;
+use crate::proof::judge_chain;
+use crate::proof::judge_counts;
+use crate::proof::last_passes;
+use crate::proof::next_round;
 use crate::proof::verdict_number;
 use crate::round::RetryCounter;
 use crate::round::SearchCounter;
+use crate::types::Index;
 use crate::types::ListCheck;
 use crate::types::is_data_long;
 use crate::types::is_end_wrong;
@@ -58,7 +64,7 @@ fn either(a: bool, b: bool) -> bool
     b
 }
 
-// The faults of the ends, looked for at one end at a time: there may be more of them than an array here could hold.
+// The faults of the ends, looked for at one end at a time.
 fn find_in_ends(ends: &[u8], limit: usize) -> EndsFound
     ensures { λ r. ⌜ (r .wrong ≡ endWrong 0 limit (numbersOf 4 (now (ends .entry)))) × (r .long ≡ dataLong 0 (numbersOf 4 (now (ends .entry)))) ⌝ }
 {
@@ -92,31 +98,40 @@ fn check_bytes(data: &[u8], ends: &[u8], marks: &[u8], indexes: &[u8]) -> ListCh
     )
 }
 
-// The ends as numbers.
-fn read_ends(ends: &[u8], out: &mut [u32])
-    requires { ⌜ length (now out) ≡ length (now ends) / 4 ⌝ }
-    ensures { λ _. ⌜ now (out .exit) ≡ numbersOf 4 (now (ends .entry)) ⌝ }
+// Whether the chain of an accepted list's elements passes, ends and indexes being read where they lie.
+fn chain_passes_in_bytes(
+    p: Params,
+    retry: RetryCounter,
+    search: SearchCounter,
+    data: &[u8],
+    ends: &[u8],
+    marks: &[u8],
+    indexes: &[u8],
+) -> bool
+    requires { ⌜ listCheck (now «data») (numbersOf 4 (now ends)) (now marks) (numbersOf 8 (now indexes)) ≡ 0 ⌝ }
+    ensures { λ r. ⌜ r ≡ yesOn (p .x) (lastHash p (retry .0) (search .0) (elements (now («data» .entry)) (numbersOf 4 (now (ends .entry))) (now (marks .entry)) (numbersOf 8 (now (indexes .entry))))) ⌝ }
 {
+    let mut round = first_round(p, retry, search);
+    let mut start: usize = 0;
     let mut i = 0;
-    while i < out.len() {
-        out[i] = end_at(ends, i);
+    while i < marks.len() {
+        if is_nowhere(round) {
+            return false;
+        }
+        let end = wide(end_at(ends, i));
+        let own = &data[start..end];
+        let index = Index {
+            mark: marks[i],
+            number: index_at(indexes, i),
+        };
+        round = next_round(p, retry, round, own, index);
+        start = end;
         i += 1;
     }
+    last_passes(p, round)
 }
 
-// The indexes as numbers.
-fn read_indexes(indexes: &[u8], out: &mut [u64])
-    requires { ⌜ length (now out) ≡ length (now indexes) / 8 ⌝ }
-    ensures { λ _. ⌜ now (out .exit) ≡ numbersOf 8 (now (indexes .entry)) ⌝ }
-{
-    let mut i = 0;
-    while i < out.len() {
-        out[i] = index_at(indexes, i);
-        i += 1;
-    }
-}
-
-// The judgement on an accepted list of at most 1,024 elements.
+// The judgement on an accepted list.
 fn judge_bytes(
     p: Params,
     retry: RetryCounter,
@@ -126,26 +141,17 @@ fn judge_bytes(
     marks: &[u8],
     indexes: &[u8],
 ) -> Verdict
-    requires { ⌜ (listCheck (now «data») (numbersOf 4 (now ends)) (now marks) (numbersOf 8 (now indexes)) ≡ 0) × (length (now marks) ≤ 1024) ⌝ }
+    requires { ⌜ listCheck (now «data») (numbersOf 4 (now ends)) (now marks) (numbersOf 8 (now indexes)) ≡ 0 ⌝ }
     ensures { λ r. ⌜ verdictNumber r ≡ judged p (retry .0) (search .0) (elements (now («data» .entry)) (numbersOf 4 (now (ends .entry))) (now (marks .entry)) (numbersOf 8 (now (indexes .entry)))) ⌝ }
 {
-    let n = marks.len();
-    let mut end_numbers = [0u32; 1024];
-    read_ends(ends, &mut end_numbers[..n]);
-    let mut index_numbers = [0u64; 1024];
-    read_indexes(indexes, &mut index_numbers[..n]);
-    judge(
-        p,
-        retry,
-        search,
-        data,
-        &end_numbers[..n],
-        marks,
-        &index_numbers[..n],
-    )
+    let counts = judge_counts(p, retry, search, marks.len());
+    if verdict_number(counts) != 0 {
+        return counts;
+    }
+    judge_chain(chain_passes_in_bytes(p, retry, search, data, ends, marks, indexes))
 }
 
-// The verdict where ends and indexes are bytes. No proof_size is over 1,024, so a longer list is met by 20 before it is read.
+// The verdict where ends and indexes are bytes.
 fn verify_bytes(
     p: Params,
     retry: RetryCounter,
@@ -174,9 +180,6 @@ fn verify_bytes(
         ListCheck::Refused(k) => {
             return Verdict::Refused(k);
         }
-    }
-    if 1024 < marks.len() {
-        return Verdict::IncorrectNumberElements;
     }
     judge_bytes(p, retry, search, data, ends, marks, indexes)
 }

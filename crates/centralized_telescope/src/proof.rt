@@ -1,14 +1,18 @@
 // The prover's search: a try's chains are walked in their order, and tries are made until one finds. Then the verifier's judgement.
 ghost use mathlib.Core.Path.{_≡_};
-ghost use mathlib.Core.List.{[], _++_};
-ghost use Prim.Native.Nat.{_+_, _*_, _<_, _≤_};
+ghost use mathlib.Core.Bool.{cond};
+ghost use mathlib.Core.List.{List, [], _∷_, _++_};
+ghost use Prim.Native.Nat.{ℕ, _+_, _*_, _<_, _≤_};
 ghost use lib.ListN.{length, take, drop};
 ghost use lib.Seq.{slice};
 ghost use Rattle.centralized_telescope.specs.Params.{checked};
-ghost use Rattle.centralized_telescope.specs.Elements.{elements, listCheck};
+ghost use Rattle.centralized_telescope.specs.Elements.{Element, elements, listCheck};
 ghost use Rattle.centralized_telescope.specs.Prover.{provedBy, served};
 ghost use Rattle.centralized_telescope.specs.inner.Visit.{tryOn, visited, walked, tried, outcomeOf, attemptOf, written, writtenFrom, Ready, Span};
 ghost use Rattle.centralized_telescope.specs.Verifier.{lastHash, yesOn, judged, verdictNumber};
+ghost use Rattle.centralized_telescope.specs.inner.ListReading.{lent};
+ghost use Rattle.centralized_telescope.specs.inner.RoundAnswers.{idOption};
+ghost use Rattle.centralized_telescope.specs.inner.Following.{isNowhere, isMet, followed, countsNumber};
 use crate::bins::fill_table;
 use crate::errors::Refusal;
 use crate::errors::refusal_number;
@@ -16,12 +20,18 @@ use crate::numbers::wide;
 use crate::params::Params;
 use crate::round::Id;
 use crate::round::RetryCounter;
+use crate::round::Round;
 use crate::round::SearchCounter;
-use crate::round::bin_hash;
+use crate::round::bin_of;
+use crate::round::hash_after;
 use crate::round::next_hash;
 use crate::round::proof_hash;
 use crate::round::round_id;
+use crate::round::round_of;
 use crate::round::start_hash;
+use crate::types::Index;
+use crate::types::data_of;
+use crate::types::index_of;
 
 // ---- The search
 
@@ -324,6 +334,66 @@ pub fn verdict_number(v: Verdict) -> u32
     }
 }
 
+// ---- The chain of a proof's elements, a round at a time. An element comes by its data and its index, wherever they lie.
+
+// Whether there is no such round.
+pub fn is_nowhere(round: Round) -> bool
+    ensures { λ r. ⌜ r ≡ isNowhere (idOption (round .id)) ⌝ }
+{
+    let id = round.id;
+    match id {
+        Id::At(_) => false,
+        Id::Nowhere => true,
+    }
+}
+
+// Whether an element has a bin, and it is the id of a round.
+fn is_met(bin: Id, round: Round) -> bool
+    ensures { λ r. ⌜ r ≡ isMet (idOption bin) (idOption (round .id)) ⌝ }
+{
+    let id = round.id;
+    let Id::At(i) = id else {
+        return false;
+    };
+    let Id::At(b) = bin else {
+        return false;
+    };
+    b == i
+}
+
+// The start round.
+pub fn first_round(p: Params, retry: RetryCounter, search: SearchCounter) -> Round
+    ensures { λ r. ⌜ ((es : List Element) → followed p (retry .0) r es ≡ lastHash p (retry .0) (search .0) es) ⌝ }
+{
+    round_of(start_hash(retry, search), p.set_size)
+}
+
+// The round behind another by an element, none unless the element's bin is the other's id.
+pub fn next_round(p: Params, retry: RetryCounter, round: Round, own: &[u8], index: Index) -> Round
+    requires { ⌜ length (now own) ≤ 4096 ⌝ }
+    ensures { λ r. ⌜ ((es : List Element) → followed p (retry .0) r es ≡ followed p (retry .0) round (lent (now (own .entry)) (index .mark) (index .number) ∷ es)) ⌝ }
+{
+    let h = round.hash;
+    if is_met(bin_of(retry, own, index, p.set_size), round) {
+        return round_of(hash_after(h, own, index), p.set_size);
+    }
+    Round {
+        hash: h,
+        id: Id::Nowhere,
+    }
+}
+
+// Whether a chain that ends with this round exists and its last hash says yes.
+pub fn last_passes(p: Params, round: Round) -> bool
+    ensures { λ r. ⌜ ((R : ℕ) → r ≡ yesOn (p .x) (followed p R round [])) ⌝ }
+{
+    if is_nowhere(round) {
+        return false;
+    }
+    let h = round.hash;
+    proof_hash(h, p.x)
+}
+
 // Whether the chain of an accepted list's elements, from the first to the last, exists and its last hash says yes.
 fn chain_passes(
     p: Params,
@@ -337,31 +407,45 @@ fn chain_passes(
     requires { ⌜ listCheck (now «data») (now ends) (now marks) (now indexes) ≡ 0 ⌝ }
     ensures { λ r. ⌜ r ≡ yesOn (p .x) (lastHash p (retry .0) (search .0) (elements (now («data» .entry)) (now (ends .entry)) (now (marks .entry)) (now (indexes .entry)))) ⌝ }
 {
-    let mut h = start_hash(retry, search);
-    let start = round_id(h, p.set_size);
-    let Id::At(first) = start else {
-        return false;
-    };
-    let mut id = first;
-    let mut followed = 0;
-    while followed < ends.len() {
-        let drawn = bin_hash(retry, data, ends, marks, indexes, followed, p.set_size);
-        let Id::At(bin) = drawn else {
-            return false;
-        };
-        if bin != id {
+    let mut round = first_round(p, retry, search);
+    let mut i = 0;
+    while i < ends.len() {
+        if is_nowhere(round) {
             return false;
         }
-        let next = next_hash(h, data, ends, marks, indexes, followed);
-        let round = round_id(next, p.set_size);
-        let Id::At(i) = round else {
-            return false;
-        };
-        h = next;
-        id = i;
-        followed += 1;
+        let own = data_of(data, ends, i);
+        round = next_round(p, retry, round, own, index_of(marks, indexes, i));
+        i += 1;
     }
-    proof_hash(h, p.x)
+    last_passes(p, round)
+}
+
+// ---- The judgement
+
+// What the length of the list and the counters say: Accepted where they leave it to the chain.
+pub fn judge_counts(p: Params, retry: RetryCounter, search: SearchCounter, count: usize) -> Verdict
+    ensures { λ r. ⌜ verdictNumber r ≡ countsNumber p (retry .0) (search .0) count ⌝ }
+{
+    if count as u64 != p.proof_size {
+        return Verdict::IncorrectNumberElements;
+    }
+    if p.search_width <= search.0 {
+        return Verdict::InvalidParameters;
+    }
+    if p.max_retries <= retry.0 {
+        return Verdict::InvalidParameters;
+    }
+    Verdict::Accepted
+}
+
+// What the chain says, by whether it passes.
+pub fn judge_chain(passes: bool) -> Verdict
+    ensures { λ r. ⌜ verdictNumber r ≡ cond passes 0 22 ⌝ }
+{
+    if passes {
+        return Verdict::Accepted;
+    }
+    Verdict::InvalidProof
 }
 
 // The verdict on an accepted list under lawful settings: by length, else by counters, else by the chain.
@@ -377,17 +461,9 @@ pub fn judge(
     requires { ⌜ listCheck (now «data») (now ends) (now marks) (now indexes) ≡ 0 ⌝ }
     ensures { λ r. ⌜ verdictNumber r ≡ judged p (retry .0) (search .0) (elements (now («data» .entry)) (now (ends .entry)) (now (marks .entry)) (now (indexes .entry))) ⌝ }
 {
-    if ends.len() as u64 != p.proof_size {
-        return Verdict::IncorrectNumberElements;
+    let counts = judge_counts(p, retry, search, ends.len());
+    if verdict_number(counts) != 0 {
+        return counts;
     }
-    if p.search_width <= search.0 {
-        return Verdict::InvalidParameters;
-    }
-    if p.max_retries <= retry.0 {
-        return Verdict::InvalidParameters;
-    }
-    if chain_passes(p, retry, search, data, ends, marks, indexes) {
-        return Verdict::Accepted;
-    }
-    Verdict::InvalidProof
+    judge_chain(chain_passes(p, retry, search, data, ends, marks, indexes))
 }

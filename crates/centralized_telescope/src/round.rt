@@ -7,9 +7,12 @@ ghost use Rattle.sampling.specs.Fips180.{sha256};
 ghost use Rattle.sampling.specs.Sample.{drawNumber};
 ghost use Rattle.centralized_telescope.specs.Elements.{elements, elementAt, tail, listCheck};
 ghost use Rattle.centralized_telescope.specs.Rounds.{startHash, nextHash, drawn, roundId, binOf, saysYes};
+ghost use Rattle.centralized_telescope.specs.inner.ListReading.{lent};
 ghost use Rattle.centralized_telescope.specs.inner.RoundAnswers.{idOption};
+use crate::types::Index;
 use crate::types::data_of;
 use crate::types::index_bytes;
+use crate::types::index_of;
 use sampling::Draw;
 use sampling::U128;
 use sampling::eight_bytes;
@@ -28,6 +31,12 @@ pub enum Id {
     Nowhere,
 }
 
+// A round: its hash, and the id that is drawn from it.
+pub struct Round {
+    pub hash: [u8; 32],
+    pub id: Id,
+}
+
 // SHA-256 of a label and three strings, all far within the hash's limit.
 fn digest(label: &[u8], a: &[u8], b: &[u8], c: &[u8]) -> [u8; 32]
     requires { ⌜ length (now label) + (length (now a) + (length (now b) + length (now c))) ≤ 2 ^ 29 ⌝ }
@@ -37,23 +46,14 @@ fn digest(label: &[u8], a: &[u8], b: &[u8], c: &[u8]) -> [u8; 32]
     h.digest
 }
 
-// The digest of a label, the bytes `first` and the tail of the element at a place.
-fn tail_digest(
-    label: &[u8],
-    first: &[u8],
-    data: &[u8],
-    ends: &[u32],
-    marks: &[u8],
-    indexes: &[u64],
-    place: usize,
-) -> [u8; 32]
-    requires { ⌜ (listCheck (now «data») (now ends) (now marks) (now indexes) ≡ 0) × (place < length (now ends)) × (length (now label) + length (now first) ≤ 64) ⌝ }
-    ensures { λ r. ⌜ r ≡ sha256 (now (label .entry) ++ (now (first .entry) ++ tail (elementAt (elements (now («data» .entry)) (now (ends .entry)) (now (marks .entry)) (now (indexes .entry))) place))) ⌝ }
+// The digest of a label, the bytes `first` and the tail of an element, which is given by its data and its index.
+fn tail_digest(label: &[u8], first: &[u8], own: &[u8], index: Index) -> [u8; 32]
+    requires { ⌜ (length (now label) + length (now first) ≤ 64) × (length (now own) ≤ 4096) ⌝ }
+    ensures { λ r. ⌜ r ≡ sha256 (now (label .entry) ++ (now (first .entry) ++ tail (lent (now (own .entry)) (index .mark) (index .number)))) ⌝ }
 {
-    let own = data_of(data, ends, place);
-    let index = index_bytes(marks, indexes, place);
-    let bytes = index.bytes;
-    let len = index.len;
+    let hashed = index_bytes(index);
+    let bytes = hashed.bytes;
+    let len = hashed.len;
     digest(label, first, own, &bytes[..len])
 }
 
@@ -66,7 +66,15 @@ pub fn start_hash(retry: RetryCounter, search: SearchCounter) -> [u8; 32]
     digest(b"Telescope-round_hash", &retry_bytes, &search_bytes, b"")
 }
 
-// The hash of the round after the one with the hash h, by the element at a place.
+// The hash of the round after the one with the hash h, by an element.
+pub fn hash_after(h: [u8; 32], own: &[u8], index: Index) -> [u8; 32]
+    requires { ⌜ length (now own) ≤ 4096 ⌝ }
+    ensures { λ r. ⌜ r ≡ nextHash h (lent (now (own .entry)) (index .mark) (index .number)) ⌝ }
+{
+    tail_digest(b"Telescope-round_hash", &h, own, index)
+}
+
+// The same by the element at a place.
 pub fn next_hash(
     h: [u8; 32],
     data: &[u8],
@@ -78,15 +86,8 @@ pub fn next_hash(
     requires { ⌜ (listCheck (now «data») (now ends) (now marks) (now indexes) ≡ 0) × (place < length (now ends)) ⌝ }
     ensures { λ r. ⌜ r ≡ nextHash h (elementAt (elements (now («data» .entry)) (now (ends .entry)) (now (marks .entry)) (now (indexes .entry))) place) ⌝ }
 {
-    tail_digest(
-        b"Telescope-round_hash",
-        &h,
-        data,
-        ends,
-        marks,
-        indexes,
-        place,
-    )
+    let own = data_of(data, ends, place);
+    hash_after(h, own, index_of(marks, indexes, place))
 }
 
 // The first 16 bytes of a digest: what is sampled.
@@ -116,7 +117,29 @@ pub fn round_id(h: [u8; 32], n: u64) -> Id
     id_of(sample_uniform(first_half(h), n))
 }
 
-// The bin of the element at a place, in the try `retry`.
+// The round with the hash h.
+pub fn round_of(h: [u8; 32], n: u64) -> Round
+    ensures { λ r. ⌜ (r .hash ≡ h) × (idOption (r .id) ≡ roundId n h) ⌝ }
+{
+    Round {
+        hash: h,
+        id: round_id(h, n),
+    }
+}
+
+// The bin of an element, in the try `retry`.
+pub fn bin_of(retry: RetryCounter, own: &[u8], index: Index, n: u64) -> Id
+    requires { ⌜ length (now own) ≤ 4096 ⌝ }
+    ensures { λ r. ⌜ idOption r ≡ binOf n (retry .0) (lent (now (own .entry)) (index .mark) (index .number)) ⌝ }
+{
+    let retry_bytes = eight_bytes(retry.0);
+    round_id(
+        tail_digest(b"Telescope-bin_hash", &retry_bytes, own, index),
+        n,
+    )
+}
+
+// The same of the element at a place.
 pub fn bin_hash(
     retry: RetryCounter,
     data: &[u8],
@@ -129,19 +152,8 @@ pub fn bin_hash(
     requires { ⌜ (listCheck (now «data») (now ends) (now marks) (now indexes) ≡ 0) × (place < length (now ends)) ⌝ }
     ensures { λ r. ⌜ idOption r ≡ binOf n (retry .0) (elementAt (elements (now («data» .entry)) (now (ends .entry)) (now (marks .entry)) (now (indexes .entry))) place) ⌝ }
 {
-    let retry_bytes = eight_bytes(retry.0);
-    round_id(
-        tail_digest(
-            b"Telescope-bin_hash",
-            &retry_bytes,
-            data,
-            ends,
-            marks,
-            indexes,
-            place,
-        ),
-        n,
-    )
+    let own = data_of(data, ends, place);
+    bin_of(retry, own, index_of(marks, indexes, place), n)
 }
 
 // Whether a chain of full length with the last hash h passes.

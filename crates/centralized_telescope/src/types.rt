@@ -4,7 +4,7 @@ ghost use mathlib.Core.Bool.{false, _||_};
 ghost use Prim.Native.Nat.{_-_, _<_, _≤_};
 ghost use lib.Dec.{ltb};
 ghost use lib.ListN.{length, take};
-ghost use Rattle.centralized_telescope.specs.Elements.{markOver, endWrong, dataLong, listCheck, listNumber, indexBytes, markOf, numberOf};
+ghost use Rattle.centralized_telescope.specs.Elements.{markOver, endWrong, dataLong, listCheck, listNumber, indexBytes, markOf, numberOf, indexOf};
 ghost use Rattle.centralized_telescope.specs.inner.ListReading.{foundNumber, startAt, dataAt, indexAt};
 use crate::errors::Refusal;
 use crate::numbers::wide;
@@ -132,18 +132,19 @@ pub fn check_list(data: &[u8], ends: &[u32], marks: &[u8], indexes: &[u64]) -> L
     )
 }
 
-// ---- One place of an accepted list. The rest of the crate reads data, ends, marks and indexes by `data_of`, `index_bytes` and `index_of` alone.
+// ---- One place of an accepted list. The rest of the crate reads data, ends, marks and indexes by `data_of` and `index_of` alone, but for
+// the export, whose ends and indexes are bytes.
+
+// An element's index as it is lent: the element has one if the mark is 1.
+pub struct Index {
+    pub mark: u8,
+    pub number: u64,
+}
 
 // An element's index as it is hashed: the first `len` of the bytes, 8 of them or none.
 pub struct IndexBytes {
     pub bytes: [u8; 8],
     pub len: usize,
-}
-
-// An element's index as it is lent: the mark 1 and the index, or 0 and 0.
-pub struct Index {
-    pub mark: u8,
-    pub number: u64,
 }
 
 // Where the data of the element at a place starts: at the end before it.
@@ -167,24 +168,7 @@ pub fn data_of<'a>(data: &'a [u8], ends: &[u32], place: usize) -> &'a [u8]
     &data[start..end]
 }
 
-// The index of the element at a place. Where the mark is 0 the index is not read.
-pub fn index_bytes(marks: &[u8], indexes: &[u64], place: usize) -> IndexBytes
-    requires { ⌜ (place < length (now marks)) × (place < length (now indexes)) ⌝ }
-    ensures { λ r. ⌜ (r .len ≤ length (r .bytes)) × (take (r .len) (r .bytes) ≡ indexBytes (indexAt (now (marks .entry)) (now (indexes .entry)) place)) ⌝ }
-{
-    if marks[place] == 1 {
-        return IndexBytes {
-            bytes: eight_bytes(indexes[place]),
-            len: 8,
-        };
-    }
-    IndexBytes {
-        bytes: [0u8; 8],
-        len: 0,
-    }
-}
-
-// The same index in the form in which it is lent, so that it can be written out.
+// The index of the element at a place, 0 and 0 where it has none: where the mark is 0 the index is not read.
 pub fn index_of(marks: &[u8], indexes: &[u64], place: usize) -> Index
     requires { ⌜ (place < length (now marks)) × (place < length (now indexes)) ⌝ }
     ensures { λ r. ⌜ (r .mark ≡ markOf (indexAt (now (marks .entry)) (now (indexes .entry)) place)) × (r .number ≡ numberOf (indexAt (now (marks .entry)) (now (indexes .entry)) place)) ⌝ }
@@ -195,5 +179,21 @@ pub fn index_of(marks: &[u8], indexes: &[u64], place: usize) -> Index
     Index {
         mark: 1,
         number: indexes[place],
+    }
+}
+
+// An index in the form in which it is hashed.
+pub fn index_bytes(index: Index) -> IndexBytes
+    ensures { λ r. ⌜ (r .len ≤ length (r .bytes)) × (take (r .len) (r .bytes) ≡ indexBytes (indexOf (index .mark) (index .number))) ⌝ }
+{
+    if index.mark == 1 {
+        return IndexBytes {
+            bytes: eight_bytes(index.number),
+            len: 8,
+        };
+    }
+    IndexBytes {
+        bytes: [0u8; 8],
+        len: 0,
     }
 }

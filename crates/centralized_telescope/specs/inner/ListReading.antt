@@ -5,7 +5,7 @@ use mathlib.Core.Option.{Option}
 use Prim.Native.Nat.{ℕ, _-_}
 use lib.Dec.{ltb, eqb}
 use lib.ListN.{take, drop, getD}
-use Rattle.centralized_telescope.specs.Elements.{indexOf}
+use Rattle.centralized_telescope.specs.Elements.{Element, indexOf}
 
 -- ---- one place
 
@@ -20,6 +20,10 @@ dataAt bytes ends place = take (getD ends place 0 - startAt ends place) (drop (s
 -- its index, if it has one
 abbrev pub indexAt : List ℕ → List ℕ → ℕ → Option ℕ
 indexAt marks indexes place = indexOf (getD marks place 0) (getD indexes place 0)
+
+-- an element by what is lent of it: its data bytes, its mark and its index
+abbrev pub lent : List ℕ → ℕ → ℕ → Element
+lent own mark n = record { bytes = own; index = indexOf mark n }
 
 -- ---- some places
 

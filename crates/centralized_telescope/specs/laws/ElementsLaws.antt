@@ -1,7 +1,7 @@
 -- Laws of accepted lists. A caller that cites these opens none of the definitions.
-use mathlib.Core.Path.{_≡_, refl, sym, ap}
+use mathlib.Core.Path.{_≡_, refl, sym, ap, _∙_}
 use mathlib.Core.Bool.{Bool, true, false, cond, not}
-use mathlib.Core.List.{List, [], _∷_, _++_}
+use mathlib.Core.List.{List, [], _∷_}
 use mathlib.Core.Option.{Option, none, some}
 use Prim.Native.Nat.{ℕ, zero, suc, _-_, _≤_, _<_}
 use native.Mathlib.Omega.{arith}
@@ -11,8 +11,8 @@ use lib.ListN.{length, take, drop, getD, length-take}
 use lib.Seq.{getD-take}
 use Rattle.sampling.specs.laws.BigEndianLaws.{length-bytesOf}
 use Rattle.centralized_telescope.specs.laws.TestLaws.{neither}
-use Rattle.centralized_telescope.specs.Elements.{Element, indexBytes, tail, indexOf, elementsFrom, elements, elementAt, markOver, endWrong, malformed, dataLong, tooLarge, listCheck}
-use Rattle.centralized_telescope.specs.inner.ListReading.{startAt, dataAt, indexAt}
+use Rattle.centralized_telescope.specs.Elements.{Element, markOf, numberOf, indexBytes, indexOf, elementsFrom, elements, elementAt, markOver, endWrong, malformed, dataLong, tooLarge, listCheck}
+use Rattle.centralized_telescope.specs.inner.ListReading.{startAt, dataAt, indexAt, lent}
 
 -- ---- what the check of a list says of the whole of it
 
@@ -98,6 +98,10 @@ element-from from d (e ∷ n) (k ∷ m) [] i h M X = absurd (omega arith)
 element-from from d (e ∷ n) (k ∷ m) (v ∷ x) zero h M X = refl
 element-from from d (e ∷ n) (k ∷ m) (v ∷ x) (suc i) h M X = element-from e d n m x i (omega arith) (omega arith) (omega arith)
 
+pub index-again : (o : Option ℕ) → indexOf (markOf o) (numberOf o) ≡ o
+index-again none = refl
+index-again (some n) = refl
+
 pub index-short : (o : Option ℕ) → length (indexBytes o) ≤ 8
 index-short none = omega arith
 index-short (some v) = omega (arith, length-bytesOf 8 v)
@@ -149,13 +153,22 @@ module _ (d n m x : List ℕ) (A : listCheck d n m x ≡ 0) where
     pub index-there : elementAt (elements d n m x) i .index ≡ indexAt m x i
     index-there = ap (λ (e : Element). e .index) element-there
 
-    pub tail-there : tail (elementAt (elements d n m x) i) ≡ dataAt d n i ++ indexBytes (indexAt m x i)
-    unfolding tail
-    tail-there = rw element-there
+    -- and by its parts, as they are lent or as `index_of` reads them
+    pub lent-there : (own : List ℕ) (k v : ℕ) → own ≡ dataAt d n i → k ≡ getD m i 0 → v ≡ getD x i 0 → lent own k v ≡ elementAt (elements d n m x) i
+    lent-there own k v o a b = same-parts o (rw (a, b)) ∙ sym element-there
+
+    pub read-there : (own : List ℕ) (k v : ℕ) → own ≡ dataAt d n i → (k ≡ markOf (indexAt m x i)) × (v ≡ numberOf (indexAt m x i)) → lent own k v ≡ elementAt (elements d n m x) i
+    read-there own k v o e = same-parts o (rw (e .0, e .1) (index-again (indexAt m x i))) ∙ sym element-there
+
+    pub place-within : (i < length m) × (i < length x)
+    place-within = (omega (arith, same-marks), omega (arith, same-indexes))
 
     pub data-short : length (dataAt d n i) ≤ 4096
     unfolding dataAt
     data-short = simp length-take (omega (arith, size-within))
+
+    pub own-short : (own : List ℕ) → own ≡ dataAt d n i → length own ≤ 4096
+    own-short own o = rw o data-short
 
     pub bytes-short : length (elementAt (elements d n m x) i .bytes) ≤ 4096
     bytes-short = rw data-there data-short

@@ -10,8 +10,8 @@ use lib.Dec.{ltb, leb, eqb}
 use lib.ListN.{length, take, drop, getD, length-append, length-map}
 use lib.Seq.{take-at, drop-at}
 use Rattle.centralized_telescope.specs.laws.TestLaws.{neither, unsaid}
-use Rattle.centralized_telescope.specs.Elements.{Element, elementsFrom, elements, elementAt, indexOf, markOf, numberOf, markOver, endWrong, malformed, dataLong, tooLarge, listCheck}
-use Rattle.centralized_telescope.specs.laws.ElementsLaws.{data-there, bytes-short}
+use Rattle.centralized_telescope.specs.Elements.{Element, elementsFrom, elements, elementAt, markOf, numberOf, markOver, endWrong, malformed, dataLong, tooLarge, listCheck}
+use Rattle.centralized_telescope.specs.laws.ElementsLaws.{index-again, data-there, bytes-short}
 use Rattle.centralized_telescope.specs.Lists.{Each, someOf}
 use Rattle.centralized_telescope.specs.laws.ListsLaws.{take-over, none-at, each-nil, each-cons, number-none}
 use Rattle.centralized_telescope.specs.ProofList.{joined, endsFrom, marksOf, indexesOf, chosen, placeOut, ProofList, listOver, writeRefusal, proofList}
@@ -67,10 +67,6 @@ accepted-again es few s =
     )
 
 -- ---- and means the same elements
-
-pub index-again : (o : Option ℕ) → indexOf (markOf o) (numberOf o) ≡ o
-index-again none = refl
-index-again (some n) = refl
 
 own-bytes : (before own rest : List ℕ) → take (length before + length own - length before) (drop (length before) (before ++ (own ++ rest))) ≡ own
 own-bytes before own rest = rw (drop-at before (own ++ rest) (length before) refl) (take-at own rest (length before + length own - length before) (omega arith))

@@ -1,95 +1,55 @@
--- `judge_bytes`: the numbers that are read are those that the bytes stand for.
+-- `judge_bytes`: the length, the counters, then the chain.
 use mathlib.Core.Path.{_≡_, sym, _∙_}
+use mathlib.Core.List.{List}
 use lib.ListN.{length}
-use lib.Seq.{length-take-le}
+use Rattle.centralized_telescope.specs.Elements.{Element, elements}
 use Rattle.centralized_telescope.specs.Exports.{numbersOf}
-use Rattle.centralized_telescope.proofs.ExportAnswers.{ends-many, indexes-many, ends-room, indexes-room, front-fits, front-length, fronts-accepted, fronts-judged}
+use Rattle.centralized_telescope.proofs.ExportAnswers.{elements-many}
+use Rattle.centralized_telescope.proofs.VerdictAnswers.{counts-told, chain-told}
 use borrow.Author.Needs.{needs}
 use Rattle.centralized_telescope.proofs.exports.judge_bytes.Statement.{statement}
 use Rattle.centralized_telescope.proofs.exports.judge_bytes.Tie as tie
 
--- as many numbers as marks
-ends-read : (s : tie.Start) → length (numbersOf 4 (s .args .ends .now)) ≡ length (s .args .marks .now)
-ends-read s = ends-many (s .args .«data» .now) (s .args .ends .now) (s .args .marks .now) (s .args .indexes .now) (s .pre .0)
+-- the elements of the proof
+abbrev list : tie.Start → List Element
+list s = let a = s .args in elements (a .«data» .now) (numbersOf 4 (a .ends .now)) (a .marks .now) (numbersOf 8 (a .indexes .now))
 
-indexes-read : (s : tie.Start) → length (numbersOf 8 (s .args .indexes .now)) ≡ length (s .args .marks .now)
-indexes-read s = indexes-many (s .args .«data» .now) (s .args .ends .now) (s .args .marks .now) (s .args .indexes .now) (s .pre .0)
+many : (s : tie.Start) → length (list s) ≡ length (s .args .marks .now)
+many s = let a = s .args in elements-many (a .«data» .now) (a .ends .now) (a .marks .now) (a .indexes .now) (s .pre)
 
-array-borrow-prefix-end-numbers : tie.Need-array-borrow-prefix-end-numbers
-array-borrow-prefix-end-numbers c = search needs
+judge-counts-requires : tie.Need-judge-counts-requires
+judge-counts-requires c κs = search needs
 
-slice-aggregate-read-ends : tie.Need-slice-aggregate-read-ends
-slice-aggregate-read-ends c = sym (length-take-le _ _ (c .before .before .before .before .before .pre .1))
-
-read-ends-requires : tie.Need-read-ends-requires
-read-ends-requires c κs =
-    let s = c .before .before .before .before .before in
-    ends-room (s .args .«data» .now) (s .args .ends .now) (s .args .marks .now) (s .args .indexes .now) (s .pre .0) _ (s .pre .1)
-
-array-borrow-prefix-index-numbers : tie.Need-array-borrow-prefix-index-numbers
-array-borrow-prefix-index-numbers c = search needs
-
-slice-aggregate-read-indexes : tie.Need-slice-aggregate-read-indexes
-slice-aggregate-read-indexes c =
-    let o = c .before .before .before .before .before .before .before .before in
-    sym (length-take-le _ _ (o .pre .1))
-
-read-indexes-requires : tie.Need-read-indexes-requires
-read-indexes-requires c κs =
-    let s = c .before .before .before .before .before .before .before .before in
-    indexes-room (s .args .«data» .now) (s .args .ends .now) (s .args .marks .now) (s .args .indexes .now) (s .pre .0) _ (s .pre .1)
-
-array-share-prefix-end-numbers : tie.Need-array-share-prefix-end-numbers
-array-share-prefix-end-numbers c =
-    let there = c .before .before .before .before .before .before .before .before .before .before in
-    front-fits _ _ _ _ (c .before .before .before .before .read-ends .ensures)
-    (ends-read there)
-
-slice-aggregate-judge : tie.Need-slice-aggregate-judge
-slice-aggregate-judge c =
-    let there = c .before .before .before .before .before .before .before .before .before .before .before in
-    front-length _ _ _ _ (c .before .before .before .before .before .read-ends .ensures)
-    (ends-read there)
-
-array-share-prefix-index-numbers : tie.Need-array-share-prefix-index-numbers
-array-share-prefix-index-numbers c =
-    let there = c .before .before .before .before .before .before .before .before .before .before .before in
-    front-fits _ _ _ _ (c .before .before .read-indexes .ensures)
-    (indexes-read there)
-
-slice-aggregate-judge-2 : tie.Need-slice-aggregate-judge-2
-slice-aggregate-judge-2 c =
-    let there = c .before .before .before .before .before .before .before .before .before .before .before .before in
-    front-length _ _ _ _ (c .before .before .before .read-indexes .ensures)
-    (indexes-read there)
-
-judge-requires : tie.Need-judge-requires
-judge-requires c κs =
-    let at-read-ends = c .before .before .before .before .before .before in
-    let s = at-read-ends .before .before .before .before .before .before in
-    fronts-accepted _ (s .args .«data» .now) (s .args .marks .now) _ _ _ _ _ _ (at-read-ends .read-ends .ensures) (c .before .before .before .read-indexes .ensures) (ends-read s) (indexes-read s) (s .pre .0)
+verdict-number-requires : tie.Need-verdict-number-requires
+verdict-number-requires c κs = search needs
 
 returns : tie.Need-returns
 returns c =
-    let at-read-ends = c .before .before .before .before .before .before .before in
-    let s = at-read-ends .before .before .before .before .before .before in
-    c .judge .ensures
-    ∙ fronts-judged _ (s .args .«data» .now) (s .args .marks .now) _ _ _ _ _ _ (at-read-ends .read-ends .ensures)
-    (c .before .before .before .before .read-indexes .ensures) (ends-read s) (indexes-read s) (s .args .p) (s .args .retry .0) (s .args .search .0)
+    let s = c .before .before .before .before .before .before .before in
+    let a = s .args in
+    counts-told (a .p) (a .retry .0) (a .search .0) (list s) _ _ (many s) (c .before .before .judge-counts .ensures) (λ z. c .if1 .taken (c .before .verdict-number .ensures ∙ z))
+
+chain-passes-in-bytes-requires : tie.Need-chain-passes-in-bytes-requires
+chain-passes-in-bytes-requires c κs = search needs
+
+judge-chain-requires : tie.Need-judge-chain-requires
+judge-chain-requires c κs = search needs
+
+returns-2 : tie.Need-returns-2
+returns-2 c =
+    let s = c .before .before .before .before .before .before .before .before .before in
+    let a = s .args in
+    c .judge-chain .ensures
+    ∙ chain-told (a .p) (a .retry .0) (a .search .0) (list s) _ _ (many s) (c .before .before .before .before .judge-counts .ensures) (sym (c .before .before .before .verdict-number .ensures) ∙ c .before .before .if1 .left)
+    _ (c .before .chain-passes-in-bytes .ensures)
 
 pub judge-bytes-spec : {M : Type 1} → statement M
 judge-bytes-spec =
     tie.close
     (tie.spec
-    array-borrow-prefix-end-numbers
-    slice-aggregate-read-ends
-    read-ends-requires
-    array-borrow-prefix-index-numbers
-    slice-aggregate-read-indexes
-    read-indexes-requires
-    array-share-prefix-end-numbers
-    slice-aggregate-judge
-    array-share-prefix-index-numbers
-    slice-aggregate-judge-2
-    judge-requires
-    returns)
+    judge-counts-requires
+    verdict-number-requires
+    returns
+    chain-passes-in-bytes-requires
+    judge-chain-requires
+    returns-2)

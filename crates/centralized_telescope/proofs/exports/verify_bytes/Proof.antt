@@ -1,11 +1,11 @@
--- `verify_bytes`: the settings, the counts of bytes, the list, the room, then the judgement.
+-- `verify_bytes`: the settings, the counts of bytes, the list, then the judgement.
 use mathlib.Core.Path.{_≡_, sym, ap, _∙_}
 use Rattle.centralized_telescope.specs.Elements.{elements, listCheck, listNumber}
 use Rattle.centralized_telescope.specs.Params.{checked, checkedNumber}
 use Rattle.centralized_telescope.specs.Verifier.{judged, verdict}
 use Rattle.centralized_telescope.specs.Exports.{numbersOf, exportedVerdict}
 use Rattle.centralized_telescope.proofs.VerdictAnswers.{list-refused, left-to-judge}
-use Rattle.centralized_telescope.proofs.ExportAnswers.{bytes-settings-refused, ends-not-whole, indexes-not-whole, whole-counts, over-room}
+use Rattle.centralized_telescope.proofs.ExportAnswers.{bytes-settings-refused, ends-not-whole, indexes-not-whole, whole-counts}
 use borrow.Author.Needs.{needs}
 use Rattle.centralized_telescope.proofs.exports.verify_bytes.Statement.{statement}
 use Rattle.centralized_telescope.proofs.exports.verify_bytes.Tie as tie
@@ -86,24 +86,11 @@ returns-4 c =
     (s .k2 .given .0 .0) (sym (s .before .before .check-bytes .ensures) ∙ ap listNumber (s .k2 .given .1))
     ∙ as-exported (s .before .before .before)
 
-returns-5 : tie.Need-returns-5
-returns-5 c =
-    let s = c .before in
-    let there = s .before .before .before .before .before in
-    let a = there .before .before .before .before .before .before .before .args in
-    over-room (a .p) (a .retry .0) (a .search .0) (a .«data» .now) (numbersOf 4 (a .ends .now)) (a .marks .now) (numbersOf 8 (a .indexes .now))
-    (lawful-settings there) (accepted s) (c .if3 .taken)
-    ∙ judged-so s
-
 judge-bytes-requires : tie.Need-judge-bytes-requires
-judge-bytes-requires c κs =
-    let s = c .before in
-    let o = s .before .before .before .before .before in
-    let start = o .before .before .before .before .before .before .before in
-    (accepted s, c .if3 .left)
+judge-bytes-requires c κs = accepted c
 
-returns-6 : tie.Need-returns-6
-returns-6 c = c .judge-bytes .ensures ∙ judged-so (c .before .before)
+returns-5 : tie.Need-returns-5
+returns-5 c = c .judge-bytes .ensures ∙ judged-so (c .before)
 
 pub verify-bytes-spec : {M : Type 1} → statement M
 verify-bytes-spec =
@@ -119,6 +106,5 @@ verify-bytes-spec =
     enum-told-2
     enum-known-k-2
     returns-4
-    returns-5
     judge-bytes-requires
-    returns-6)
+    returns-5)

@@ -1,40 +1,34 @@
--- `bin_hash`: the draw from the digest of the label, the retry counter and the tail.
-use borrow.Author.Needs.{needs}
-use Rattle.centralized_telescope.specs.Elements.{elements, elementAt}
-use Rattle.centralized_telescope.specs.Rounds.{binLabel}
-use Rattle.centralized_telescope.proofs.RoundHashes.{bin-is}
+-- `bin_hash`: what is lent of the place is its element.
+use mathlib.Core.Path.{ap, _∙_}
+use Rattle.centralized_telescope.specs.Rounds.{binOf}
+use Rattle.centralized_telescope.specs.laws.ElementsLaws.{ends-right, place-within, own-short, read-there}
 use Rattle.centralized_telescope.proofs.round.bin_hash.Statement.{statement}
 use Rattle.centralized_telescope.proofs.round.bin_hash.Tie as tie
 
-eight-bytes-requires : tie.Need-eight-bytes-requires
-eight-bytes-requires c κs = search needs
+data-of-requires : tie.Need-data-of-requires
+data-of-requires c κs =
+    let z = c .before .before .before .before .args in
+    let p = c .before .before .before .before .pre in
+    (ends-right (z .«data» .now) (z .ends .now) (z .marks .now) (z .indexes .now) (p .0), p .1)
 
-slice-aggregate-tail-digest : tie.Need-slice-aggregate-tail-digest
-slice-aggregate-tail-digest c = search needs
+index-of-requires : tie.Need-index-of-requires
+index-of-requires c κs =
+    let z = c .before .before .before .before .before .args in
+    let p = c .before .before .before .before .before .pre in
+    place-within (z .«data» .now) (z .ends .now) (z .marks .now) (z .indexes .now) (p .0) (z .place) (p .1)
 
-slice-aggregate-tail-digest-2 : tie.Need-slice-aggregate-tail-digest-2
-slice-aggregate-tail-digest-2 c = search needs
-
-tail-digest-requires : tie.Need-tail-digest-requires
-tail-digest-requires c κs = search needs
-
-round-id-requires : tie.Need-round-id-requires
-round-id-requires c κs = search needs
+bin-of-requires : tie.Need-bin-of-requires
+bin-of-requires c κs =
+    let z = c .before .before .before .before .before .before .args in
+    let p = c .before .before .before .before .before .before .pre in
+    own-short (z .«data» .now) (z .ends .now) (z .marks .now) (z .indexes .now) (p .0) (z .place) (p .1) _ (c .before .data-of .ensures)
 
 returns : tie.Need-returns
-unfolding binLabel
 returns c =
-    let z = c .before .before .before .before .before .before .before .before .before .args in
-    let e = elementAt (elements (z .«data» .now) (z .ends .now) (z .marks .now) (z .indexes .now)) (z .place) in
-    bin-is _ _ _ (z .n) (z .retry .0) e (c .round-id .ensures) (c .before .tail-digest .ensures) (c .before .before .before .before .eight-bytes .ensures)
+    let z = c .before .before .before .before .before .before .before .args in
+    let p = c .before .before .before .before .before .before .before .pre in
+    c .bin-of .ensures
+    ∙ ap (binOf (z .n) (z .retry .0)) (read-there (z .«data» .now) (z .ends .now) (z .marks .now) (z .indexes .now) (p .0) (z .place) (p .1) _ _ _ (c .before .before .data-of .ensures) (c .before .index-of .ensures))
 
 pub bin-hash-spec : {M : Type 1} → statement M
-bin-hash-spec =
-    tie.close
-    (tie.spec
-    eight-bytes-requires
-    slice-aggregate-tail-digest
-    slice-aggregate-tail-digest-2
-    tail-digest-requires
-    round-id-requires
-    returns)
+bin-hash-spec = tie.close (tie.spec data-of-requires index-of-requires bin-of-requires returns)

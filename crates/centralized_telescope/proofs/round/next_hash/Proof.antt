@@ -1,27 +1,35 @@
--- `next_hash`: the label and the hash before the tail.
-use borrow.Author.Needs.{needs}
-use Rattle.centralized_telescope.specs.Rounds.{nextHash, roundLabel}
+-- `next_hash`: what is lent of the place is its element.
+use mathlib.Core.Path.{ap, _∙_}
+use Rattle.centralized_telescope.specs.Rounds.{nextHash}
+use Rattle.centralized_telescope.specs.laws.ElementsLaws.{ends-right, place-within, own-short, read-there}
 use Rattle.centralized_telescope.proofs.round.next_hash.Statement.{statement}
 use Rattle.centralized_telescope.proofs.round.next_hash.Tie as tie
 
-slice-aggregate-tail-digest : tie.Need-slice-aggregate-tail-digest
-slice-aggregate-tail-digest c = search needs
+data-of-requires : tie.Need-data-of-requires
+data-of-requires c κs =
+    let z = c .before .before .before .before .args in
+    let p = c .before .before .before .before .pre in
+    (ends-right (z .«data» .now) (z .ends .now) (z .marks .now) (z .indexes .now) (p .0), p .1)
 
-slice-aggregate-tail-digest-2 : tie.Need-slice-aggregate-tail-digest-2
-slice-aggregate-tail-digest-2 c = search needs
+index-of-requires : tie.Need-index-of-requires
+index-of-requires c κs =
+    let z = c .before .before .before .before .before .args in
+    let p = c .before .before .before .before .before .pre in
+    place-within (z .«data» .now) (z .ends .now) (z .marks .now) (z .indexes .now) (p .0) (z .place) (p .1)
 
-tail-digest-requires : tie.Need-tail-digest-requires
-tail-digest-requires c κs = search needs
+hash-after-requires : tie.Need-hash-after-requires
+hash-after-requires c κs =
+    let z = c .before .before .before .before .before .before .args in
+    let p = c .before .before .before .before .before .before .pre in
+    own-short (z .«data» .now) (z .ends .now) (z .marks .now) (z .indexes .now) (p .0) (z .place) (p .1) _ (c .before .data-of .ensures)
 
 returns : tie.Need-returns
-unfolding nextHash roundLabel
-returns c = c .tail-digest .ensures
+returns c =
+    let z = c .before .before .before .before .before .before .before .args in
+    let p = c .before .before .before .before .before .before .before .pre in
+    c .hash-after .ensures
+    ∙ ap (nextHash (z .h)) (read-there (z .«data» .now) (z .ends .now) (z .marks .now) (z .indexes .now) (p .0) (z .place) (p .1) _ _ _ (c .before .before .data-of .ensures) (c .before .index-of .ensures))
 
 pub next-hash-spec : {M : Type 1} → statement M
 next-hash-spec =
-    tie.close
-    (tie.spec
-    slice-aggregate-tail-digest
-    slice-aggregate-tail-digest-2
-    tail-digest-requires
-    returns)
+    tie.close (tie.spec data-of-requires index-of-requires hash-after-requires returns)
