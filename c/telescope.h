@@ -12,11 +12,17 @@
  * starts from a probability q, a host that makes such a header, has a double: alba_threshold makes X of it.
  *
  * What ALBA_ACCEPTED, green, means: the chain of the proof's elements exists and passes under the settings, which must be the loader's
- * own. So much is proved. By the telescope's theorem, which takes SHA-256 for a random function and isn't proved here, it shows that more
- * than f different elements stand behind the proof, f being smaller than set_size: someone who has at most f goes green with a probability
- * of at most 2^-s, where, with the small case's settings for completeness c,
+ * own. And more than f elements stand behind the proof, f being smaller than set_size: whatever someone sends who has at most f, he goes
+ * green under at most one in 2^(s + 1) of all functions in SHA-256's place, where, with the small case's settings for completeness c,
  *
- *     proof_size >= (s + log2 c + 5 - log2 log2 e) / log2(set_size / f)
+ *     set_size^proof_size * 1442695 >= f^proof_size * 2^(s + 5) * c * 1000000
+ *
+ * Both are proved, the second by the theorem seldom_green, in which an s above 207 counts as 207. What stays assumed:
+ * - SHA-256 behaves as a function drawn at random, on the strings that are hashed here.
+ * - The elements are fixed before that function is asked, and the f are all that he could send. Who can invent elements, or choose among
+ *   many readings of a board, has more: so they must be genuine, and one to a board. With k such lists it is k times as many functions.
+ * - Elements count by their Tail, the data with the index behind it. Two that have the same Tail are one.
+ * - Completeness, that an honest server finds a proof, is the telescope's paper's.
  *
  * Set_size 400, proof_size 328 and c = 10, say, have s = 128 against f = 300. `plan security` works proof_size out of s, c, set_size and f;
  * README.md says more of them, and has a table. What green doesn't mean:

@@ -7,6 +7,7 @@ usage: harness compare [--cases N] [--seed S]
        harness load --minutes N | --seconds N [--seed S] [--threads T]
        harness load --turn N --seed S
        harness sizes --minutes N | --seconds N | --turns N [--seed S]
+       harness model [--functions N] [--seed S]
        harness answers [--seed S]
        harness bench [--steps | --tickets | --distinctness | --sizes]
        harness stack
@@ -36,6 +37,12 @@ sizes     Looks for security figures of which the Rust, by its doubles, makes an
           differences are no failure; that the library doesn't keep to the request is.
   --minutes N, --seconds N   how long
   --turns N   so many turns, as a run before had them
+  --seed S    as above
+
+model     Counts under how many functions in SHA-256's place someone with few elements has a proof that the verifier accepts: in small games
+          under all functions, and with settings made from small security figures under random ones, which hash a key before each
+          message. It prints the shares beside the bounds that are proved. A share beyond its bound is a failure, with status 1.
+  --functions N   random functions for each game and for each of the figures, 1000 or more (default 20000)
   --seed S    as above
 
 answers   Writes a list of cases to standard output with the original Rust's answers, on distinctness with those of its definition; the
@@ -72,11 +79,17 @@ pub struct Sizes {
     pub seed: u64,
 }
 
+pub struct Model {
+    pub functions: u64,
+    pub seed: u64,
+}
+
 pub enum Command {
     Help,
     Compare(Compare),
     Load(Load),
     Sizes(Sizes),
+    Model(Model),
     /// With this seed.
     Answers(u64),
     Bench(Bench),
@@ -111,6 +124,7 @@ pub fn parse(mut words: impl Iterator<Item = String>) -> Result<Command, String>
         Some("compare") => compare(words).map(Command::Compare),
         Some("load") => load(words).map(Command::Load),
         Some("sizes") => sizes(words).map(Command::Sizes),
+        Some("model") => model(words).map(Command::Model),
         Some("answers") => answers(words).map(Command::Answers),
         Some("bench") => bench(words).map(Command::Bench),
         Some("stack") => match words.next().as_deref() {
@@ -161,6 +175,15 @@ fn sizes(words: impl Iterator<Item = String>) -> Result<Sizes, String> {
         return Err("sizes wants --minutes, --seconds or --turns".to_string());
     }
     Ok(Sizes { time: if time.is_zero() { Duration::MAX } else { time }, turns, seed })
+}
+
+fn model(words: impl Iterator<Item = String>) -> Result<Model, String> {
+    let [functions, seed] = numbers("model", words, [("--functions", 20_000), ("--seed", from_clock())])?;
+    // Of fewer a share says too little.
+    if functions < 1000 {
+        return Err("model wants 1000 functions or more".to_string());
+    }
+    Ok(Model { functions, seed })
 }
 
 fn duration(minutes: u64, seconds: u64) -> Duration {
@@ -238,6 +261,17 @@ mod tests {
         assert_eq!(sizes("sizes --minutes 10 --seed 3"), (Duration::from_secs(600), u64::MAX, 3));
         assert_eq!(sizes("sizes --turns 7 --seed 3"), (Duration::MAX, 7, 3));
         assert_eq!(why_not("sizes --seed 3"), "sizes wants --minutes, --seconds or --turns");
+    }
+
+    #[test]
+    fn model_wants_functions_enough() {
+        let model = |line| match parsed(line) {
+            Ok(Command::Model(model)) => (model.functions, model.seed),
+            _ => panic!("{line}"),
+        };
+        assert_eq!((model("model --seed 3"), model("model --functions 1000 --seed 0x10")), ((20_000, 3), (1000, 16)));
+        assert_eq!(why_not("model --functions 999"), "model wants 1000 functions or more");
+        assert_eq!(why_not("model --cases 5"), "model has no `--cases`");
     }
 
     #[test]

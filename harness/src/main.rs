@@ -1,6 +1,6 @@
 //! Compares the verified library with the Rust that it is made from, and with the specification's words where they say what the Rust hasn't
-//! (`compare`, `load`), looks where the Rust's proof size is another (`sizes`), stores answers (`answers`), and measures both (`bench`,
-//! `stack`).
+//! (`compare`, `load`), looks where the Rust's proof size is another (`sizes`), counts under how many functions in SHA-256's place a proof
+//! is accepted (`model`), stores answers (`answers`), and measures both (`bench`, `stack`).
 
 mod answers;
 mod args;
@@ -11,6 +11,7 @@ mod compare;
 mod ffi;
 mod list;
 mod load;
+mod model;
 mod original;
 mod proof_size;
 mod rng;
@@ -52,6 +53,7 @@ fn main() -> ExitCode {
         Command::Compare(options) => compare::run(&options),
         Command::Load(options) => load::run(&options),
         Command::Sizes(options) => sizes::run(&options),
+        Command::Model(options) => model::run(&options),
         Command::Answers(seed) => answers::run(seed),
         Command::Bench(part) => bench::run(part),
         Command::Stack(depth) => stack::run(depth),

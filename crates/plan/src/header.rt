@@ -1,4 +1,6 @@
 // The settings and the amounts as a C header.
+ghost use mathlib.Core.Path.{_≡_};
+ghost use Prim.Native.Nat.{_+_, min, max};
 use arguments::Figures;
 use arguments::say_argument;
 use arguments::say_refused;
@@ -21,6 +23,20 @@ fn say_command(last: usize) {
     }
 }
 
+// Too few elements go green under at most one in 2 to this power of all functions in SHA-256's place: the better of the two claims of the
+// theorem `seldom_green`, 2^(s + 1) with s up to 207 and 2^(s + 2) with s up to 204.
+fn seldom_power(soundness: u64) -> u64
+    ensures { λ r. ⌜ r ≡ max (min soundness 207 + 1) (min soundness 204 + 2) ⌝ }
+{
+    if soundness <= 204 {
+        return soundness + 2;
+    }
+    if soundness <= 207 {
+        return soundness + 1;
+    }
+    208
+}
+
 // What the security figures asked for, where they were given.
 fn say_figures(f: Figures) {
     if !f.known {
@@ -32,8 +48,14 @@ fn say_figures(f: Figures) {
     say_figure(b" of ", f.set_size);
     say(b", in the sense of the telescope's paper:\n");
     say(
-        b" * the smallest proof size by the formula of the Rust's params.rs, log2 e cut to six decimals, and its small case.\n *\n",
+        b" * the smallest proof size by the formula of the Rust's params.rs, log2 e cut to six decimals, and its small case.\n",
     );
+    say_figure(b" * Proved (seldom_green): who has at most ", f.lower_bound);
+    say_figure(
+        b" elements goes green under at most one in 2^",
+        seldom_power(f.soundness),
+    );
+    say(b" of all functions\n * in SHA-256's place.\n *\n");
 }
 
 fn say_comment(f: Figures, longest: u64, last: usize) {

@@ -1,5 +1,5 @@
 //! A search and a verdict by the specification's words alone, with `sha2` and the Rust's uniform sampler: what is due for an X that no q
-//! gives, of which the Rust can't be asked.
+//! gives, of which the Rust can't be asked. The hashes that they rest on take the function: here it is SHA-256, in `model` another.
 
 use super::{rules, searches::Outcome, verdicts::Claim};
 use crate::{ffi, ffi::Settings, list::List};
@@ -7,25 +7,26 @@ use sha2::{Digest, Sha256};
 use std::ops::ControlFlow::{self, Break, Continue};
 
 /// A round's hash.
-type Hash = [u8; 32];
+pub type Hash = [u8; 32];
 
-fn start_hash(retry_counter: u64, search_counter: u64) -> Hash {
-    let hasher = Sha256::new().chain_update(b"Telescope-round_hash");
+/// `function` is SHA-256, or SHA-256 with what is already hashed in it before each message. So it is for the hashes below.
+pub fn start_hash(function: &Sha256, retry_counter: u64, search_counter: u64) -> Hash {
+    let hasher = function.clone().chain_update(b"Telescope-round_hash");
     hasher.chain_update(retry_counter.to_be_bytes()).chain_update(search_counter.to_be_bytes()).finalize().into()
 }
 
-fn next_hash(hash: &Hash, list: &List, place: usize) -> Hash {
-    rules::with_tail(Sha256::new().chain_update(b"Telescope-round_hash").chain_update(hash), list, place).finalize().into()
+pub fn next_hash(function: &Sha256, hash: &Hash, list: &List, place: usize) -> Hash {
+    rules::with_tail(function.clone().chain_update(b"Telescope-round_hash").chain_update(hash), list, place).finalize().into()
 }
 
 /// A round's id; without one the round doesn't exist.
-fn id_of(hash: &Hash, set_size: u64) -> Option<u64> {
+pub fn id_of(hash: &Hash, set_size: u64) -> Option<u64> {
     oracle::sample_uniform(hash.first_chunk().expect("16 bytes"), set_size)
 }
 
 /// The number of a chain's last hash, which passes where it is below X.
-fn number_of(last: &Hash) -> u128 {
-    let digest: Hash = Sha256::new().chain_update(b"Telescope-proof_hash").chain_update(last).finalize().into();
+pub fn number_of(function: &Sha256, last: &Hash) -> u128 {
+    let digest: Hash = function.clone().chain_update(b"Telescope-proof_hash").chain_update(last).finalize().into();
     u128::from_be_bytes(*digest.first_chunk().expect("16 bytes"))
 }
 
@@ -65,7 +66,7 @@ impl Try<'_> {
     /// The search counter of the first chain that passes, if that is one of the first dfs_bound.
     fn search(&mut self) -> Option<u64> {
         let mut counters = 0..self.s.search_width;
-        counters.find_map(|search_counter| match self.visit(start_hash(self.retry_counter, search_counter)) {
+        counters.find_map(|search_counter| match self.visit(start_hash(&Sha256::new(), self.retry_counter, search_counter)) {
             Continue(()) => None,
             Break(is_found) => Some(is_found.then_some(search_counter)),
         })?
@@ -82,12 +83,12 @@ impl Try<'_> {
         }
         self.count += 1;
         if self.places.len() as u64 == self.s.proof_size {
-            return if number_of(&hash) < self.x { Break(true) } else { Continue(()) };
+            return if number_of(&Sha256::new(), &hash) < self.x { Break(true) } else { Continue(()) };
         }
         for at in 0..self.bins[id as usize].len() {
             let place = self.bins[id as usize][at];
             self.places.push(place);
-            self.visit(next_hash(&hash, self.list, place as usize))?;
+            self.visit(next_hash(&Sha256::new(), &hash, self.list, place as usize))?;
             self.places.pop();
         }
         Continue(())
@@ -112,15 +113,15 @@ pub fn verify(claim: &Claim) -> u32 {
 /// The number of the last hash of the chain that the claim's own elements make, none where that doesn't exist.
 pub fn last_number(claim: &Claim) -> Option<u128> {
     let Claim { settings, retry_counter, search_counter, list } = claim;
-    let mut hash = start_hash(*retry_counter, *search_counter);
+    let mut hash = start_hash(&Sha256::new(), *retry_counter, *search_counter);
     for place in 0..list.len() {
         let id = id_of(&hash, settings.set_size)?;
         if rules::bin_of(list, place, settings.set_size, *retry_counter) != Some(id) {
             return None;
         }
-        hash = next_hash(&hash, list, place);
+        hash = next_hash(&Sha256::new(), &hash, list, place);
     }
-    id_of(&hash, settings.set_size).map(|_| number_of(&hash))
+    id_of(&hash, settings.set_size).map(|_| number_of(&Sha256::new(), &hash))
 }
 
 #[cfg(test)]

@@ -139,7 +139,7 @@ impl Shifted {
 }
 
 /// A list for the print of a failing case; a long one is told by the seed.
-fn shown_list(list: &List) -> String {
+pub fn shown_list(list: &List) -> String {
     if list.len() > 5000 || list.data.len() > 1 << 20 {
         return format!("  a list of {} ends and {} data bytes, which the seed gives\n", list.len(), list.data.len());
     }

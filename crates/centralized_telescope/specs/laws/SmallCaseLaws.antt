@@ -2,8 +2,8 @@
 use mathlib.Core.Path.{_≡_, refl, sym, _∙_, subst}
 use mathlib.Core.Bool.{Bool, true, false, not, cond, _&&_}
 use mathlib.Core.Logic.{inl, inr}
-use Prim.Native.Nat.{ℕ, zero, suc, _+_, _-_, _*_, _/_, _%_, _^_, _≤_, _<_}
-use native.Mathlib.Nat.{mul-comm, mul-pos, mul-le-mul-right, div-le-of-le-mul, div-add-mod', le-trans, eq-zero-or-pos, eq-or-lt-of-le, le-of-suc-le-suc}
+use Prim.Native.Nat.{ℕ, _+_, _-_, _*_, _/_, _%_, _^_, _≤_, _<_}
+use native.Mathlib.Nat.{mul-comm, mul-pos, mul-le-mul-right, div-le-of-le-mul, div-add-mod', le-trans, eq-zero-or-pos, eq-or-lt-of-le}
 use native.Mathlib.Omega.{arith}
 use borrow.Author.Tests.{ltb-false, le-ltb, eqb-false}
 use lib.Dec.{T, ltb, eqb}
@@ -13,7 +13,7 @@ use Rattle.sampling.specs.Sample.{outside, outsideUnit}
 use Rattle.centralized_telescope.specs.declared.params.Params.{Params}
 use Rattle.centralized_telescope.specs.declared.params.SmallSettings.{SmallSettings}
 use Rattle.centralized_telescope.specs.Params.{setSizeOut, checked, floor, ceil, asDouble, L, beforeCeil, searchWidth, probability, beforeFloor, dfsBound, smallSettings, zeros, proofSizeOut, completenessOut, smallCase}
-use Rattle.centralized_telescope.specs.laws.TestLaws.{neither}
+use Rattle.centralized_telescope.specs.laws.TestLaws.{neither, eachUpTo, from-computed}
 use Rattle.centralized_telescope.specs.laws.ParamsLaws.{one-to, Limits, passes}
 
 -- ---- the small case, by its tests in the table's order
@@ -101,21 +101,9 @@ passesAt u =
     not (outside (2 ^ 32 - 1) (beforeCeil u))
     && (not (outside (2 ^ 48) (beforeFloor u (searchWidth u))) && not (outsideUnit (probability (searchWidth u))))
 
-unfoldable passesUpTo : ℕ → Bool
-passesUpTo zero = true
-passesUpTo (suc k) = passesAt (suc k) && passesUpTo k
-
-computed : T (passesUpTo 1024)
-unfolding isNan lt ofInt round add mul div outside ceil asDouble L beforeCeil searchWidth probability beforeFloor passesUpTo
+computed : T (eachUpTo passesAt 1024)
+unfolding isNan lt ofInt round add mul div outside ceil asDouble L beforeCeil searchWidth probability beforeFloor eachUpTo
 computed = tt
-
-from-computed : (k : ℕ) → T (passesUpTo k) → (u : ℕ) → 1 ≤ u → u ≤ k → T (passesAt u)
-unfolding passesUpTo
-from-computed zero t u l h = absurd (omega arith)
-from-computed (suc k) t u l h = elim (eq-or-lt-of-le h) [
-  | inl e ↦ rw e (and-l (passesAt (suc k)) (passesUpTo k) t)
-  | inr g ↦ from-computed k (and-r (passesAt (suc k)) (passesUpTo k) t) u l (le-of-suc-le-suc g)
-]
 
 pub record InRange (u : ℕ) : Type 0 where
   pub before-ceil : outside (2 ^ 32 - 1) (beforeCeil u) ≡ false
@@ -129,7 +117,7 @@ is-false false t = refl
 pub in-range : (u : ℕ) → proofSizeOut u ≡ false → InRange u
 in-range u p =
     let b = one-to p in
-    let t = from-computed 1024 computed u (b .0) (b .1) in
+    let t = from-computed passesAt 1024 computed u (b .0) (b .1) in
     let f = not (outside (2 ^ 48) (beforeFloor u (searchWidth u))) in
     let q = not (outsideUnit (probability (searchWidth u))) in
     let w = and-r (not (outside (2 ^ 32 - 1) (beforeCeil u))) (f && q) t in

@@ -3,11 +3,12 @@ use mathlib.Core.Path.{_≡_, refl, sym, _∙_, subst}
 use mathlib.Core.Bool.{Bool, true, false, false≢true, cond, _||_, _&&_}
 use mathlib.Core.Logic.{_⊎_, inl, inr, ⊎-elim}
 use Prim.Native.Nat.{ℕ, zero, suc, _+_, _≤_, _<_}
-use native.Mathlib.Nat.{eq-or-lt-of-le}
+use native.Mathlib.Nat.{eq-or-lt-of-le, le-of-suc-le-suc}
 use native.Mathlib.Numerals.{add-one}
 use native.Mathlib.Omega.{arith}
 use borrow.Author.Tests.{eqb-true, eqb-false, ltb-true, ltb-false}
-use lib.Dec.{eqb, ltb}
+use lib.Dec.{T, eqb, ltb}
+use lib.Ieee.Fits.{and-l, and-r}
 
 -- ---- tests joined, and a choice that makes no difference
 
@@ -64,3 +65,16 @@ pub ascends : (f : ℕ → ℕ) → ((i : ℕ) → f i ≤ f (i + 1)) → (i j :
 ascends f step i zero l = let e : i ≡ 0 = omega arith in rw e (omega arith)
 ascends f step i (suc j) l =
     ⊎-elim (λ e. rw e (omega arith)) (λ k. omega (arith, ascends f step i j (omega arith), rw (add-one j) at (step j))) (eq-or-lt-of-le l)
+
+-- a test that is computed for each number from 1 to k, and what that says of one of them
+unfoldable pub eachUpTo : (ℕ → Bool) → ℕ → Bool
+eachUpTo test zero = true
+eachUpTo test (suc k) = test (suc k) && eachUpTo test k
+
+pub from-computed : (test : ℕ → Bool) (k : ℕ) → T (eachUpTo test k) → (u : ℕ) → 1 ≤ u → u ≤ k → T (test u)
+unfolding eachUpTo
+from-computed test zero t u l h = absurd (omega arith)
+from-computed test (suc k) t u l h = elim (eq-or-lt-of-le h) [
+  | inl e ↦ rw e (and-l (test (suc k)) (eachUpTo test k) t)
+  | inr g ↦ from-computed test k (and-r (test (suc k)) (eachUpTo test k) t) u l (le-of-suc-le-suc g)
+]

@@ -1,0 +1,13 @@
+pub mod SumLaws
+pub mod TableLaws
+pub mod CountLaws
+pub mod DigestLaws
+pub mod PlaceLaws
+pub mod InputLaws
+pub mod ChainLaws
+pub mod ShareLaws
+pub mod GreenLaws
+pub mod ExampleLaws
+pub mod FigureLaws
+pub mod OursLaws
+pub mod FunctionLaws
