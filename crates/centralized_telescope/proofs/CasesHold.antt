@@ -12,7 +12,8 @@ use Rattle.sampling.specs.BigEndian.{bigEndian}
 use Rattle.sampling.specs.Sample.{isPower, modNotPower, uniform, outside, threshold, thresholdOrRefusal, bernoulli}
 use Rattle.sampling.specs.laws.SampleLaws.{drawn-of-one}
 use Rattle.centralized_telescope.specs.declared.params.Params.{Params}
-use Rattle.centralized_telescope.specs.Params.{notOneTo, asDouble, L, floor, ceil, beforeCeil, searchWidth, beforeFloor, dfsBound, proofSizeOut, completenessOut, smallCase, smallSettings}
+use Rattle.centralized_telescope.specs.Params.{notOneTo, asDouble, L, floor, ceil, beforeCeil, searchWidth, beforeFloor, dfsBound}
+use Rattle.centralized_telescope.specs.Params.{proofSizeOut, completenessOut, smallCase, smallSettings}
 use Rattle.centralized_telescope.specs.laws.SmallCaseLaws.{settings-given}
 use Rattle.centralized_telescope.specs.Elements.{Element, elements}
 use Rattle.centralized_telescope.specs.laws.ElementsLaws.{length-elements}
@@ -67,13 +68,13 @@ module _ (size width retries bound : ℕ) where
 
   run-ends : (n number count : ℕ) → count ≡ counted (min 2 n) → number ≡ cond (leb bound count) 11 12 → Ends p n number count
   unfolding served
-  run-ends n number count C N bytes ends marks indexes places table S E =
-      let es = elements bytes ends marks indexes in
+  run-ends n number count C N lent places table S E =
+      let es = elements lent in
       let kept : length (take 2 es) ≡ min 2 n =
-      length-take 2 es ∙ ap (λ (k : ℕ). min 2 k) (length-elements bytes ends marks indexes (S .list) ∙ E) in
+      length-take 2 es ∙ ap (λ (k : ℕ). min 2 k) (length-elements lent (S .list) ∙ E) in
       let sum : searched p es .count ≡ count = count-is es ∙ ap counted kept ∙ sym C in
       let a = answered-none (searched p es .proof) (searched p es .made) (searched p es .count) places _ (proof-is es) in
-      rw (served-so p bytes ends marks indexes places table S) (a .0 ∙ ap (λ (k : ℕ). cond (leb bound k) 11 12) sum ∙ sym N, a .1 ∙ sum)
+      rw (served-so p lent places table S) (a .0 ∙ ap (λ (k : ℕ). cond (leb bound k) 11 12) sum ∙ sym N, a .1 ∙ sum)
 
 -- ---- all of them
 
@@ -82,7 +83,8 @@ abbrev _&_ : {A B : Type 0} → A → B → A × B
 a & b = (a, b)
 
 pub all-cases : AllCases
-unfolding Each cases Holds isNan lt ofInt round add mul div bigEndian isPower modNotPower uniform outside threshold thresholdOrRefusal bernoulli notOneTo asDouble L floor ceil beforeCeil searchWidth beforeFloor dfsBound treeSize
+unfolding Each cases Holds isNan lt ofInt round add mul div bigEndian isPower modNotPower uniform outside threshold thresholdOrRefusal
+    bernoulli notOneTo asDouble L floor ceil beforeCeil searchWidth beforeFloor dfsBound treeSize
 all-cases =
     refl
     & drawn-of-one

@@ -1,7 +1,7 @@
 -- Demand 3, proved; and the example that its premise admits.
 use mathlib.Core.Path.{_≡_, refl, ap, sym, _∙_, subst}
 use mathlib.Core.Logic.{inr}
-use mathlib.Core.List.{List, [], _∷_, _++_, map}
+use mathlib.Core.List.{List, [], _∷_, map}
 use Prim.Native.Nat.{ℕ, _*_, _≤_, _<_}
 use native.Mathlib.Omega.{arith}
 use lib.ListN.{length, take, length-map, length-take}
@@ -10,6 +10,7 @@ use Rattle.centralized_telescope.specs.declared.params.Params.{Params}
 use Rattle.centralized_telescope.specs.Params.{notOneTo, limitBroken, checked}
 use Rattle.centralized_telescope.specs.laws.ParamsLaws.{lawful}
 use Rattle.centralized_telescope.specs.Elements.{Element, elements, elementAt, endWrong, malformed, dataLong, tooLarge, listCheck}
+use Rattle.centralized_telescope.specs.Elements.{Lent, lentOf}
 use Rattle.centralized_telescope.specs.laws.ElementsLaws.{at-kept, length-elements, bytes-short}
 use Rattle.centralized_telescope.specs.Lists.{Each, someOf}
 use Rattle.centralized_telescope.specs.laws.ListsLaws.{each-nil, each-cons, each-head, each-rest}
@@ -19,7 +20,8 @@ use Rattle.centralized_telescope.specs.Prover.{Proved, served, proved, t
 use Rattle.centralized_telescope.specs.Verifier.{verdict}
 use Rattle.centralized_telescope.specs.ProofList.{joined, endsFrom, marksOf, indexesOf}
 use Rattle.centralized_telescope.specs.laws.ProofListLaws.{Short, accepted-again, elements-again}
-use Rattle.centralized_telescope.specs.Demand3.{Served, OfProver, OfVerifier, OnTheProof, Listed, proofElements, demand3, servedExample}
+use Rattle.centralized_telescope.specs.Demand3.{Served, OfProver, OfVerifier, OnTheProof, Listed, proofElements, demand3}
+use Rattle.centralized_telescope.specs.Demand3.{servedExample}
 use Rattle.centralized_telescope.proofs.ProveAnswers.{served-so}
 use Rattle.centralized_telescope.proofs.VerifierDemand.{verdict-so}
 use Rattle.centralized_telescope.proofs.ProverDemand.{prover-so}
@@ -39,21 +41,21 @@ module _ (p : Params) (es : List Element) (R : ℕ) (c : Chain) (w : Passes (try
 
 -- ---- the chain's elements as a list
 
-module _ (d n m x : List ℕ) (A : listCheck d n m x ≡ 0) (k : ℕ) where
-  all-short : (ps : List ℕ) → Each (λ (place : ℕ). place < length (take k (elements d n m x))) ps → Each Short (map (elementAt (elements d n m x)) ps)
+module _ (lent : Lent) (A : listCheck lent ≡ 0) (k : ℕ) where
+  open Lent lent using (ends as n)
+
+  all-short : (ps : List ℕ) → Each (λ (place : ℕ). place < length (take k (elements lent))) ps
+      → Each Short (map (elementAt (elements lent)) ps)
   all-short [] e = each-nil Short
   all-short (place ∷ ps) e =
-      let l = each-head (λ (i : ℕ). i < length (take k (elements d n m x))) place ps e in
-      let r = each-rest (λ (i : ℕ). i < length (take k (elements d n m x))) place ps e in
-      let within : place < length n = omega (arith, l, length-take k (elements d n m x), length-elements d n m x A) in
-      each-cons Short _ _ (bytes-short d n m x A place within) (all-short ps r)
+      let l = each-head (λ (i : ℕ). i < length (take k (elements lent))) place ps e in
+      let r = each-rest (λ (i : ℕ). i < length (take k (elements lent))) place ps e in
+      let within : place < length n = omega (arith, l, length-take k (elements lent), length-elements lent A) in
+      each-cons Short _ _ (bytes-short lent A place within) (all-short ps r)
 
 list-of : (es : List Element) → length es ≤ 65536 → Each Short es → Listed es
 list-of es few short = record {
-  bytes = joined es;
-  ends = endsFrom 0 es;
-  marks = marksOf es;
-  indexes = indexesOf es;
+  lent = lentOf (joined es) (endsFrom 0 es) (marksOf es) (indexesOf es);
   accepted = accepted-again es few short;
   same = elements-again es;
 }
@@ -63,23 +65,23 @@ proof-size-few p s = lawful p s .limits .proof-size
 
 -- ---- the claim, each field of `Demand3` a declaration of its name
 
-module _ (p : Params) (bytes ends marks indexes places table : List ℕ) (S : Served p bytes ends marks indexes places table) where
+module _ (p : Params) (lent : Lent) (places table : List ℕ) (S : Served p lent places table) where
   abbrev es : List Element
-  es = elements bytes ends marks indexes
+  es = elements lent
 
   abbrev r : Proved
-  r = proved p bytes ends marks indexes places table
+  r = proved p lent places table
 
   of-prover : OfProver p es places r
   unfolding served
   of-prover =
       subst (OfProver p es places)
-      (sym (served-so p bytes ends marks indexes places table S))
+      (sym (served-so p lent places table S))
       (prover-so p es places (tableAfter p es (searched p es .made) table))
 
-  of-verifier : (R S′ : ℕ) (bytes′ ends′ marks′ indexes′ : List ℕ)
-      → OfVerifier p R S′ bytes′ ends′ marks′ indexes′ (verdict p R S′ bytes′ ends′ marks′ indexes′)
-  of-verifier R S′ bytes′ ends′ marks′ indexes′ = verdict-so p R S′ bytes′ ends′ marks′ indexes′ (S .settings)
+  of-verifier : (R S′ : ℕ) (lent′ : Lent)
+      → OfVerifier p R S′ lent′ (verdict p R S′ lent′)
+  of-verifier R S′ lent′ = verdict-so p R S′ lent′ (S .settings)
 
   module _ (n : r .number ≡ 0) where
     abbrev T : Try
@@ -104,7 +106,7 @@ module _ (p : Params) (bytes ends marks indexes places table : List ℕ) (S : Se
         rw at-places
         (list-of (map (elementAt es) (c .places))
         (omega (arith, length-map (c .places) (elementAt es), passes .exactly, proof-size-few p (S .settings)))
-        (all-short bytes ends marks indexes (S .list) (2 * p .«set_size») (c .places) (passes .exists .kept-places)))
+        (all-short lent (S .list) (2 * p .«set_size») (c .places) (passes .exists .kept-places)))
 
     chain-verified : ElementsPass p (r .retry) (r .search) (proofElements p es r)
     chain-verified = rw (of-chain, of-prover .proof-is n .2, of-prover .proof-is n .3) (chain-passes p es (of-prover .made) c passes)
@@ -112,22 +114,22 @@ module _ (p : Params) (bytes ends marks indexes places table : List ℕ) (S : Se
     below-width : r .search < p .«search_width»
     below-width = rw (of-prover .proof-is n .3) (passes .exists .below-width)
 
-    on-the-proof : (l : Listed (proofElements p es r)) → OnTheProof p r (verdict p (r .retry) (r .search) (l .bytes) (l .ends) (l .marks) (l .indexes))
+    on-the-proof : (l : Listed (proofElements p es r)) → OnTheProof p r (verdict p (r .retry) (r .search) (l .lent))
     on-the-proof l =
-        let w = of-verifier (r .retry) (r .search) (l .bytes) (l .ends) (l .marks) (l .indexes) in
-        let pass : ElementsPass p (r .retry) (r .search) (elements (l .bytes) (l .ends) (l .marks) (l .indexes)) = rw (l .same) chain-verified in
+        let w = of-verifier (r .retry) (r .search) (l .lent) in
+        let pass : ElementsPass p (r .retry) (r .search) (elements (l .lent)) = rw (l .same) chain-verified in
         record {
           accepts = ((λ q. w .accepts .0 q .2), (λ b. w .accepts .1 (l .accepted, below-width, b, pass)));
           else-counters = λ b. w .counters-out .1 (l .accepted, pass .0, inr b);
         }
 
 pub demand-3 : demand3
-demand-3 p bytes ends marks indexes places table S = record {
-  of-prover = of-prover p bytes ends marks indexes places table S;
-  of-verifier = of-verifier p bytes ends marks indexes places table S;
-  of-chain = of-chain p bytes ends marks indexes places table S;
-  listed = listed p bytes ends marks indexes places table S;
-  on-the-proof = on-the-proof p bytes ends marks indexes places table S;
+demand-3 p lent places table S = record {
+  of-prover = of-prover p lent places table S;
+  of-verifier = of-verifier p lent places table S;
+  of-chain = of-chain p lent places table S;
+  listed = listed p lent places table S;
+  on-the-proof = on-the-proof p lent places table S;
 }
 
 -- ---- the example

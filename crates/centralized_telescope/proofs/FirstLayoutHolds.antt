@@ -56,4 +56,4 @@ unfolding firstTicket ticket content blocks filled elementsBytes bytesOf
 another-proof = refl
 
 pub first-refused : firstRefused
-first-refused = (λ R S es h d n m x. sym (no-ticket (firstTicket R S es) d n m x (whole R S es h) (no-such R S es h)), another-proof)
+first-refused = (λ R S es h buffers. sym (no-ticket (firstTicket R S es) buffers (whole R S es h) (no-such R S es h)), another-proof)

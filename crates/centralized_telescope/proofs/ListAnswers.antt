@@ -1,11 +1,10 @@
 -- The check of a lent list by its tests, in the table's order.
 use mathlib.Core.Path.{_≡_}
 use mathlib.Core.Bool.{Bool, true, false}
-use mathlib.Core.List.{List}
 use Prim.Native.Nat.{ℕ, _≤_, _<_}
 use borrow.Author.Tests.{eq-eqb, ne-eqb, lt-ltb, le-ltb}
 use lib.ListN.{length}
-use Rattle.centralized_telescope.specs.Elements.{markOver, endWrong, malformed, dataLong, tooLarge, listCheck}
+use Rattle.centralized_telescope.specs.Elements.{markOver, endWrong, malformed, dataLong, tooLarge, listCheck, Lent}
 use Rattle.centralized_telescope.specs.inner.ListReading.{foundNumber}
 
 module _ (n m x : ℕ) (over wrong long : Bool) where
@@ -36,7 +35,8 @@ module _ (n m x : ℕ) (over wrong long : Bool) where
             accepted l = rw (eq-eqb n m M, eq-eqb n x X, K, W, le-ltb 65536 n N, l)
 
 -- what is found in a list of n ends and k indexes
-pub found : (d e m x : List ℕ) (n k : ℕ) (over wrong long : Bool) → n ≡ length e → k ≡ length x
-    → over ≡ markOver m → wrong ≡ endWrong 0 (length d) e → long ≡ dataLong 0 e → foundNumber n (length m) k over wrong long ≡ listCheck d e m x
+pub found : (lent : Lent) (n k : ℕ) (over wrong long : Bool) → n ≡ length (lent .ends) → k ≡ length (lent .indexes)
+    → over ≡ markOver (lent .marks) → wrong ≡ endWrong 0 (length (lent .bytes)) (lent .ends) → long ≡ dataLong 0 (lent .ends)
+    → foundNumber n (length (lent .marks)) k over wrong long ≡ listCheck lent
 unfolding listCheck malformed tooLarge
-found d e m x n k over wrong long N K o w l = rw (N, K, o, w, l)
+found lent n k over wrong long N K o w l = rw (N, K, o, w, l)

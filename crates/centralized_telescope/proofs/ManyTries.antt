@@ -15,7 +15,7 @@ use Rattle.centralized_telescope.specs.declared.proof.ProofSearch.the-va
 use Rattle.centralized_telescope.specs.declared.round.SearchCounter.{SearchCounter}
 use Rattle.centralized_telescope.specs.Lists.{over}
 use Rattle.centralized_telescope.specs.Params.{checked}
-use Rattle.centralized_telescope.specs.Elements.{Element, listCheck}
+use Rattle.centralized_telescope.specs.Elements.{Element, listCheck, Lent}
 use Rattle.centralized_telescope.specs.Bins.{tableOf, binTable}
 use Rattle.centralized_telescope.specs.laws.BinsLaws.{length-table}
 use Rattle.centralized_telescope.specs.Chains.{Try, tryOf, Chain}
@@ -32,7 +32,8 @@ missing-try : (r : Ended Chain) (t : ℕ) → attempt.Missing t ≡ attemptOf r 
 missing-try (found u c) t e = let z : _≡_ {A = ℕ} 0 1 = cc in absurd (omega arith)
 missing-try (missing u) t e = cc
 
-found-try : (r : Ended Chain) (S : SearchCounter) (t : ℕ) → attempt.Found S t ≡ attemptOf r → (c : Chain) × (r ≡ found t c) × (S .0 ≡ c .search)
+found-try : (r : Ended Chain) (S : SearchCounter) (t : ℕ) → attempt.Found S t ≡ attemptOf r
+    → (c : Chain) × (r ≡ found t c) × (S .0 ≡ c .search)
 found-try (found u c) S t e = let z : S ≡ record { 0 = c .search } = cc in (c, cc, ap (λ (k : SearchCounter). k .0) z)
 found-try (missing u) S t e = let z : _≡_ {A = ℕ} 0 1 = cc in absurd (omega arith)
 
@@ -68,7 +69,8 @@ module _ (p : Params) (es : List Element) where
       omega (arith, length-binList (p .«set_size») (suc R) (take (2 * p .«set_size») es), length-take (2 * p .«set_size») es) in
       q ∙ rw (
         e,
-        drop-at (tableOf (p .«set_size») (binsOf (tryOf p es (suc R)))) (drop (3 * p .«set_size» + 1) old) (3 * p .«set_size» + 1) (length-table (p .«set_size») (binsOf (tryOf p es (suc R))) few),
+        drop-at (tableOf (p .«set_size») (binsOf (tryOf p es (suc R)))) (drop (3 * p .«set_size» + 1) old) (3 * p .«set_size» + 1)
+            (length-table (p .«set_size») (binsOf (tryOf p es (suc R))) few),
         add-one (suc R),
       )
 
@@ -78,25 +80,27 @@ module _ (p : Params) (es : List Element) where
   unfolding served
   ends-served s e places table = rw e
 
-  found-served : (R : ℕ) (S : SearchCounter) (n : ℕ) (c : Chain) (now lent old : List ℕ) → S .0 ≡ c .search → now ≡ tableAfter p es (R + 1) lent
+  found-served : (R : ℕ) (S : SearchCounter) (n : ℕ) (c : Chain) (now was old : List ℕ) → S .0 ≡ c .search
+      → now ≡ tableAfter p es (R + 1) was
       → searched p es ≡ record { made = R + 1; count = n; proof = some c }
-      → provedBy (answer.Found (record { 0 = R + 1 }) S n) (over (c .places) old) now ≡ served p es old lent
+      → provedBy (answer.Found (record { 0 = R + 1 }) S n) (over (c .places) old) now ≡ served p es old was
   unfolding answered
-  found-served R S n c now lent old q et ends = rw (et, q) (ends-served _ ends old lent)
+  found-served R S n c now was old q et ends = rw (et, q) (ends-served _ ends old was)
 
-  module _ (w R sum : ℕ) (ew : w ≡ 0) (inv : searched p es ≡ triesFrom p es w R sum) (now lent last old : List ℕ) (et : now ≡ tableAfter p es R lent)
+  module _ (w R sum : ℕ) (ew : w ≡ 0) (inv : searched p es ≡ triesFrom p es w R sum) (now was last old : List ℕ)
+      (et : now ≡ tableAfter p es R was)
       (ep : last ≡ old) where
     all-made : searched p es ≡ record { made = R; count = sum; proof = none }
     unfolding triesFrom
     all-made = inv ∙ rw ew
 
-    pub not-in-bounds : p .«dfs_bound» ≤ sum → provedBy (answer.NotFoundInBounds sum) last now ≡ served p es old lent
+    pub not-in-bounds : p .«dfs_bound» ≤ sum → provedBy (answer.NotFoundInBounds sum) last now ≡ served p es old was
     unfolding answered
-    not-in-bounds l = rw (et, ep) (rw (le-leb (p .«dfs_bound») sum l) at (ends-served _ all-made old lent))
+    not-in-bounds l = rw (et, ep) (rw (le-leb (p .«dfs_bound») sum l) at (ends-served _ all-made old was))
 
-    pub not-found : sum < p .«dfs_bound» → provedBy (answer.NotFound sum) last now ≡ served p es old lent
+    pub not-found : sum < p .«dfs_bound» → provedBy (answer.NotFound sum) last now ≡ served p es old was
     unfolding answered
-    not-found l = rw (et, ep) (rw (lt-leb (p .«dfs_bound») sum l) at (ends-served _ all-made old lent))
+    not-found l = rw (et, ep) (rw (lt-leb (p .«dfs_bound») sum l) at (ends-served _ all-made old was))
 
 -- what is known when a try is made, with v tries behind it: o is its answer, last are the lent places then, mid before it, old at first
 pub record Attempted (p : Params) (es : List Element) (v R sum : ℕ) (o : Attempt) (last mid old : List ℕ) : Type 0 where
@@ -105,15 +109,18 @@ pub record Attempted (p : Params) (es : List Element) (v R sum : ℕ) (o : Attem
   pub places-are : last ≡ written (it (tryOf p es (R + 1))) mid
   pub as-lent : mid ≡ old
 
-module _ {p : Params} {es : List Element} {v R sum : ℕ} {o : Attempt} {last mid old : List ℕ} (k : Attempted p es v R sum o last mid old) where
+module _ {p : Params} {es : List Element} {v R sum : ℕ} {o : Attempt} {last mid old : List ℕ}
+    (k : Attempted p es v R sum o last mid old) where
   abbrev now-made : Try
   now-made = tryOf p es (R + 1)
 
-  opened : searched p es ≡ unlessFound (tryFinds now-made) (R + 1) (sum + tryCount now-made) (triesFrom p es v (R + 1) (sum + tryCount now-made))
+  opened : searched p es
+      ≡ unlessFound (tryFinds now-made) (R + 1) (sum + tryCount now-made) (triesFrom p es v (R + 1) (sum + tryCount now-made))
   unfolding triesFrom
   opened = k .still
 
-  pub all-missing : (t : ℕ) → o ≡ attempt.Missing t → (searched p es ≡ triesFrom p es v (R + 1) (sum + t)) × (last ≡ old) × (t ≤ p .«dfs_bound»)
+  pub all-missing : (t : ℕ) → o ≡ attempt.Missing t
+      → (searched p es ≡ triesFrom p es v (R + 1) (sum + t)) × (last ≡ old) × (t ≤ p .«dfs_bound»)
   unfolding unlessFound written
   all-missing t e =
       let m : it now-made ≡ missing t = missing-try (it now-made) t (sym e ∙ k .answer-is) in
@@ -131,29 +138,29 @@ module _ {p : Params} {es : List Element} {v R sum : ℕ} {o : Attempt} {last mi
     pub found-within : t ≤ p .«dfs_bound»
     found-within = rw (caught .1) at (try-within now-made)
 
-    pub all-found : (now lent : List ℕ) → now ≡ tableAfter p es (R + 1) lent
-        → provedBy (answer.Found (record { 0 = R + 1 }) S (sum + t)) last now ≡ served p es old lent
+    pub all-found : (now was : List ℕ) → now ≡ tableAfter p es (R + 1) was
+        → provedBy (answer.Found (record { 0 = R + 1 }) S (sum + t)) last now ≡ served p es old was
     unfolding unlessFound written
-    all-found now lent et =
+    all-found now was et =
         let finds : tryFinds now-made ≡ some (caught .0) = sym (finds-is now-made) ∙ ap find (caught .1) in
         let counts : tryCount now-made ≡ t = sym (count-is now-made) ∙ ap counted (caught .1) in
         let ends : searched p es ≡ record { made = R + 1; count = sum + t; proof = some (caught .0) } = opened ∙ rw (finds, counts) in
         let places : last ≡ written (found t (caught .0)) old =
         k .places-are ∙ ap (λ (r : Ended Chain). written r mid) (caught .1) ∙ ap (written (found t (caught .0))) (k .as-lent) in
         ap (λ (l : List ℕ). provedBy (answer.Found (record { 0 = R + 1 }) S (sum + t)) l now) places
-        ∙ found-served p es R S (sum + t) (caught .0) now lent old (caught .2) et ends
+        ∙ found-served p es R S (sum + t) (caught .0) now was old (caught .2) et ends
 
 -- a table that was just filled is ready to be searched
-pub filled-ready : (p : Params) (bytes ends marks indexes : List ℕ) (R : ℕ) (table lent : List ℕ) (room : ℕ) → checked p ≡ 0
-    → listCheck bytes ends marks indexes ≡ 0
-    → table ≡ binTable (p .«set_size») (binsOf (tryOn p bytes ends marks indexes R)) lent
+pub filled-ready : (p : Params) (lent : Lent) (R : ℕ) (table was : List ℕ) (room : ℕ) → checked p ≡ 0
+    → listCheck lent ≡ 0
+    → table ≡ binTable (p .«set_size») (binsOf (tryOn p lent R)) was
     → p .«proof_size» ≤ room
-    → Ready p bytes ends marks indexes R table room
+    → Ready p lent R table room
 unfolding binTable
-filled-ready p bytes ends marks indexes R table lent room s l t h = record {
+filled-ready p lent R table was room s l t h = record {
   settings = s;
   list = l;
-  rest = drop (3 * p .«set_size» + 1) lent;
+  rest = drop (3 * p .«set_size» + 1) was;
   table-is = t;
   roomy = h;
 }

@@ -15,7 +15,8 @@ use Rattle.centralized_telescope.specs.declared.params.Params.{Params}
 use Rattle.centralized_telescope.specs.declared.planning.Amounts.{Amounts}
 use Rattle.centralized_telescope.specs.Params.{notOneTo, limitBroken, checked}
 use Rattle.centralized_telescope.specs.Lists.{Each, someOf, firstNumber}
-use Rattle.centralized_telescope.specs.Elements.{Element, markOf, elementsFrom, elements, elementAt, endWrong, malformed, dataLong, tooLarge, listCheck}
+use Rattle.centralized_telescope.specs.Elements.{Element, markOf, elementsFrom, elements, elementAt, endWrong, malformed, dataLong}
+use Rattle.centralized_telescope.specs.Elements.{tooLarge, listCheck, Lent, lentOf}
 use Rattle.centralized_telescope.specs.Chains.{Chain}
 use Rattle.centralized_telescope.specs.Search.{searched}
 use Rattle.centralized_telescope.specs.Prover.{Proved, refused, answered, served, proverRefusal, proved}
@@ -58,9 +59,11 @@ module _ (p : Params) (longest : ℕ) (a : Amounts) (G : Given p longest a) wher
 
 -- ---- 6, and when it comes
 
-module _ (p : Params) (s : checked p ≡ 0) (bytes ends marks indexes places table : List ℕ) where
+module _ (p : Params) (s : checked p ≡ 0) (lent : Lent) (places table : List ℕ) where
+  open Lent lent using (ends)
+
   abbrev answer : Proved
-  answer = proved p bytes ends marks indexes places table
+  answer = proved p lent places table
 
   not-six : (o : Option Chain) (R count : ℕ) (table′ : List ℕ) → answered p o R count places table′ .number ≡ 6 → ⊥
   unfolding answered
@@ -73,64 +76,67 @@ module _ (p : Params) (s : checked p ≡ 0) (bytes ends marks indexes places tab
 
   enough : p .«proof_size» ≤ length places → 3 * p .«set_size» + 1 ≤ length table → answer .number ≡ 6 → ⊥
   unfolding served
-  enough h t e = go (listCheck bytes ends marks indexes) refl
+  enough h t e = go (listCheck lent) refl
     where
-      go : (n : ℕ) → listCheck bytes ends marks indexes ≡ n → ⊥
+      go : (n : ℕ) → listCheck lent ≡ n → ⊥
       go (suc k) l =
-          let q : answer .number ≡ suc k = ap (λ (x : Proved). x .number) (list-number p bytes ends marks indexes places table s (suc k) (λ z. omega arith) l) in
-          omega (arith, check-range bytes ends marks indexes)
+          let q : answer .number ≡ suc k =
+          ap (λ (x : Proved). x .number) (list-number p lent places table s (suc k) (λ z. omega arith) l) in
+          omega (arith, check-range lent)
       go zero l = elim (lt-or-le (length ends) (p .«set_size»)) [
-        | inl f ↦ let q : answer .number ≡ 10 = ap (λ (x : Proved). x .number) (few-refused p bytes ends marks indexes places table s l h t f) in omega arith
+        | inl f ↦ let q : answer .number ≡ 10 = ap (λ (x : Proved). x .number) (few-refused p lent places table s l h t f) in omega arith
         | inr f ↦
-            not-six (searched p (elements bytes ends marks indexes) .proof) _ _ _
-            (sym (ap (λ (x : Proved). x .number) (all-served p bytes ends marks indexes places table s l h t f)) ∙ e)
+            not-six (searched p (elements lent) .proof) _ _ _
+            (sym (ap (λ (x : Proved). x .number) (all-served p lent places table s l h t f)) ∙ e)
       ]
 
-  too-short : listCheck bytes ends marks indexes ≡ 0 → (length places < p .«proof_size») ⊎ (length table < 3 * p .«set_size» + 1) → answer ≡ refused 6 places table
-  too-short l (inl h) = places-short p bytes ends marks indexes places table s l h
+  too-short : listCheck lent ≡ 0 → (length places < p .«proof_size») ⊎ (length table < 3 * p .«set_size» + 1)
+      → answer ≡ refused 6 places table
+  too-short l (inl h) = places-short p lent places table s l h
   too-short l (inr t) = elim (lt-or-le (length places) (p .«proof_size»)) [
-    | inl h ↦ places-short p bytes ends marks indexes places table s l h
-    | inr h ↦ table-short p bytes ends marks indexes places table s l h t
+    | inl h ↦ places-short p lent places table s l h
+    | inr h ↦ table-short p lent places table s l h t
   ]
 
 pub plan-suffices : planSuffices
-plan-suffices p longest a P bytes ends marks indexes places table h t =
+plan-suffices p longest a P lent places table h t =
     let G = given p longest a P in
-    enough p (G .settings) bytes ends marks indexes places table (subst (λ (k : ℕ). k ≤ length places) (places-are p longest a G) h) (subst (λ (k : ℕ). k ≤ length table) (table-is p longest a G) t)
+    enough p (G .settings) lent places table (subst (λ (k : ℕ). k ≤ length places) (places-are p longest a G) h)
+    (subst (λ (k : ℕ). k ≤ length table) (table-is p longest a G) t)
 
 pub plan-needed : planNeeded
-plan-needed p longest a P bytes ends marks indexes places table A h =
+plan-needed p longest a P lent places table A h =
     let G = given p longest a P in
-    too-short p (G .settings) bytes ends marks indexes places table A (elim h [
+    too-short p (G .settings) lent places table A (elim h [
       | inl l ↦ inl (subst (λ (k : ℕ). length places < k) (places-are p longest a G) l)
       | inr l ↦ inr (subst (λ (k : ℕ). length table < k) (table-is p longest a G) l)
     ])
 
 -- ---- the step count
 
-module _ (p : Params) (bytes ends marks indexes places table : List ℕ) where
+module _ (p : Params) (lent : Lent) (places table : List ℕ) where
   abbrev es : List Element
-  es = elements bytes ends marks indexes
+  es = elements lent
 
   counted : (o : Option Chain) (R count : ℕ) (table′ : List ℕ) → answered p o R count places table′ .count ≡ count
   unfolding answered
   counted (some c) R count table′ = refl
   counted none R count table′ = refl
 
-  steps-most : proved p bytes ends marks indexes places table .count ≤ p .«max_retries» * p .«dfs_bound»
+  steps-most : proved p lent places table .count ≤ p .«max_retries» * p .«dfs_bound»
   unfolding proved served
   steps-most = go (eqb refusal 0)
     where
       refusal : ℕ
-      refusal = proverRefusal p bytes ends marks indexes places table
+      refusal = proverRefusal p lent places table
 
       go : (t : Bool) → cond t (served p es places table) (refused refusal places table) .count ≤ p .«max_retries» * p .«dfs_bound»
       go true = rw (counted (searched p es .proof) (searched p es .made) (searched p es .count) _) (search-steps p es)
       go false = omega arith
 
 pub steps-not-passed : stepsNotPassed
-steps-not-passed p longest a P bytes ends marks indexes places table =
-    rw (steps-are p longest a (given p longest a P)) (steps-most p bytes ends marks indexes places table)
+steps-not-passed p longest a P lent places table =
+    rw (steps-are p longest a (given p longest a P)) (steps-most p lent places table)
 
 -- ---- a proof's ticket
 
@@ -142,7 +148,8 @@ at-each P (e ∷ es) zero h E = E .0
 at-each P (e ∷ es) (suc i) h E = at-each P es i (omega arith) (E .1)
 
 -- data no longer than some length, joined
-joined-most : (longest : ℕ) (es : List Element) → Each (λ (e : Element). length (e .bytes) ≤ longest) es → length (joined es) ≤ length es * longest
+joined-most : (longest : ℕ) (es : List Element) → Each (λ (e : Element). length (e .bytes) ≤ longest) es
+    → length (joined es) ≤ length es * longest
 unfolding Each joined
 joined-most longest [] h = omega arith
 joined-most longest (e ∷ es) h = omega (arith, length-append (e .bytes) (joined es), h .0, joined-most longest es (h .1))
@@ -152,41 +159,51 @@ blocks-rise : (m n : ℕ) → m ≤ n → blockCount m ≤ blockCount n
 blocks-rise m n h = omega arith
 
 -- an accepted list whose ticket has room
-module _ (R S : ℕ) (d n m x out : List ℕ) (A : listCheck d n m x ≡ 0) where
+module _ (R S : ℕ) (lent : Lent) (out : List ℕ) (A : listCheck lent ≡ 0) where
   abbrev size : ℕ
-  size = length (content R S (elements d n m x))
+  size = length (content R S (elements lent))
 
-  ticket-made : 512 * blockCount size ≤ length out → (ticketWritten R S d n m x out .number ≡ 0) × (ticketWritten R S d n m x out .count ≡ blockCount size)
+  ticket-made : 512 * blockCount size ≤ length out
+      → (ticketWritten R S lent out .number ≡ 0) × (ticketWritten R S lent out .count ≡ blockCount size)
   unfolding ticketWritten
-  ticket-made room = rw (eq-eqb (ticketWriteRefusal R S d n m x out) 0 (room-met R S d n m x out A size refl false (le-ltb (length out) (512 * blockCount size) room))) (refl, refl)
+  ticket-made room =
+      rw (eq-eqb (ticketWriteRefusal R S lent out) 0
+      (room-met R S lent out A size refl false (le-ltb (length out) (512 * blockCount size) room))) (refl, refl)
 
-module _ (p : Params) (bytes ends marks indexes places table : List ℕ) (n : proved p bytes ends marks indexes places table .number ≡ 0) where
+module _ (p : Params) (lent : Lent) (places table : List ℕ) (n : proved p lent places table .number ≡ 0) where
+  open Lent lent using (ends)
+
   abbrev r : Proved
-  r = proved p bytes ends marks indexes places table
+  r = proved p lent places table
 
   abbrev all : List Element
-  all = elements bytes ends marks indexes
+  all = elements lent
 
   -- the proof's places
   abbrev own : List ℕ
   own = take (p .«proof_size») (r .places)
 
-  run : Served p bytes ends marks indexes places table
-  run = found-served p bytes ends marks indexes places table n
+  run : Served p lent places table
+  run = found-served p lent places table n
 
   chain : (c : Chain) × (own ≡ c .places) × (length (c .places) ≡ p .«proof_size») × Each (λ (i : ℕ). i < length all) (c .places)
   chain =
-      let D = demand-3 p bytes ends marks indexes places table run in
+      let D = demand-3 p lent places table run in
       let q = D .of-prover .proof-is n in
       let c = q .0 in
-      let w = q .1 .passes in
-      (c, ap (take (p .«proof_size»)) (q .4) ∙ take-at (c .places) _ (p .«proof_size») (w .exactly), w .exactly, within (c .places) (w .exists .kept-places))
+      let w = q .1 .passes in (
+        c,
+        ap (take (p .«proof_size»)) (q .4) ∙ take-at (c .places) _ (p .«proof_size») (w .exactly),
+        w .exactly,
+        within (c .places) (w .exists .kept-places),
+      )
     where
       within : (ps : List ℕ) → Each (λ (i : ℕ). i < length (take (2 * p .«set_size») all)) ps → Each (λ (i : ℕ). i < length all) ps
       within [] e = each-nil (λ (i : ℕ). i < length all)
       within (i ∷ ps) e =
           let l = each-head (λ (j : ℕ). j < length (take (2 * p .«set_size») all)) i ps e in
-          each-cons (λ (j : ℕ). j < length all) i ps (omega (arith, length-take (2 * p .«set_size») all)) (within ps (each-rest (λ (j : ℕ). j < length (take (2 * p .«set_size») all)) i ps e))
+          each-cons (λ (j : ℕ). j < length all) i ps (omega (arith, length-take (2 * p .«set_size») all))
+          (within ps (each-rest (λ (j : ℕ). j < length (take (2 * p .«set_size») all)) i ps e))
 
   own-places : Each (λ (i : ℕ). i < length all) own
   own-places = rw (chain .1) (chain .3)
@@ -197,14 +214,16 @@ module _ (p : Params) (bytes ends marks indexes places table : List ℕ) (n : pr
   chosen-each : (P : Element → Type 0) → Each P all → (ps : List ℕ) → Each (λ (i : ℕ). i < length all) ps → Each P (map (elementAt all) ps)
   chosen-each P E [] h = each-nil P
   chosen-each P E (i ∷ ps) h =
-      each-cons P _ _ (at-each P all i (each-head (λ (j : ℕ). j < length all) i ps h) E) (chosen-each P E ps (each-rest (λ (j : ℕ). j < length all) i ps h))
+      each-cons P _ _ (at-each P all i (each-head (λ (j : ℕ). j < length all) i ps h) E)
+      (chosen-each P E ps (each-rest (λ (j : ℕ). j < length all) i ps h))
 
   none-out : (ps : List ℕ) → Each (λ (i : ℕ). i < length all) ps → placeOut (length ends) ps ≡ false
   unfolding someOf
   none-out [] h = refl
   none-out (i ∷ ps) h =
       let l = each-head (λ (j : ℕ). j < length all) i ps h in
-      rw (lt-leb (length ends) i (omega (arith, l, length-elements bytes ends marks indexes (run .list)))) (none-out ps (each-rest (λ (j : ℕ). j < length all) i ps h))
+      rw (lt-leb (length ends) i (omega (arith, l, length-elements lent (run .list))))
+      (none-out ps (each-rest (λ (j : ℕ). j < length all) i ps h))
 
   module _ (longest : ℕ) (a : Amounts) (G : Given p longest a) (short : Each (λ (e : Element). length (e .bytes) ≤ longest) all) where
     own-short : Each (λ (e : Element). length (e .bytes) ≤ longest) (map (elementAt all) own)
@@ -213,26 +232,32 @@ module _ (p : Params) (bytes ends marks indexes places table : List ℕ) (n : pr
     elements-count : length (map (elementAt all) own) ≡ p .«proof_size»
     elements-count = length-map own (elementAt all) ∙ own-length
 
-    module _ (bytes′ ends′ marks′ indexes′ out : List ℕ) where
-      abbrev w : ProofList
-      w = proofList own bytes ends marks indexes bytes′ ends′ marks′ indexes′
+    module _ (buffers : Lent) (out : List ℕ) where
+      open Lent buffers using (bytes as bytes′, ends as ends′, marks as marks′, indexes as indexes′)
 
-      listed : a .places * longest ≤ length bytes′ → a .places ≤ length ends′ → a .places ≤ length marks′ → a .places ≤ length indexes′ → w .number ≡ 0
+      abbrev w : ProofList
+      w = proofList own lent buffers
+
+      listed : a .places * longest ≤ length bytes′ → a .places ≤ length ends′ → a .places ≤ length marks′ → a .places ≤ length indexes′
+          → w .number ≡ 0
       unfolding proofList buffersShort listOver
       listed b e m x =
           let P = places-are p longest a G in
           let few : length own ≤ 1024 = omega (arith, own-length, lawful p (G .settings) .limits .proof-size) in
-          let data-most : length (joined (map (elementAt all) own)) ≤ p .«proof_size» * longest = subst (λ (k : ℕ). length (joined (map (elementAt all) own)) ≤ k * longest) elements-count (joined-most longest (map (elementAt all) own) own-short) in
+          let data-most : length (joined (map (elementAt all) own)) ≤ p .«proof_size» * longest =
+          subst (λ (k : ℕ). length (joined (map (elementAt all) own)) ≤ k * longest) elements-count
+          (joined-most longest (map (elementAt all) own) own-short) in
           let b′ : p .«proof_size» * longest ≤ length bytes′ = subst (λ (k : ℕ). k * longest ≤ length bytes′) P b in
-          let room : buffersShort (length own) (length (joined (map (elementAt all) own))) (length bytes′) (length ends′) (length marks′) (length indexes′) ≡ false =
+          let room : buffersShort (length own) (length (joined (map (elementAt all) own))) (length bytes′) (length ends′) (length marks′)
+          (length indexes′) ≡ false =
           rw (
             le-ltb (length ends′) (length own) (omega (arith, own-length)),
             le-ltb (length marks′) (length own) (omega (arith, own-length)),
             le-ltb (length indexes′) (length own) (omega (arith, own-length)),
             le-ltb (length bytes′) (length (joined (map (elementAt all) own))) (omega arith),
           ) in
-          let none-met = last-met own bytes ends marks indexes bytes′ ends′ marks′ indexes′ (run .list) (omega arith) (none-out own own-places) false room in
-          rw (eq-eqb (writeRefusal own bytes ends marks indexes bytes′ ends′ marks′ indexes′) 0 none-met)
+          let none-met = last-met own lent buffers (run .list) (omega arith) (none-out own own-places) false room in
+          rw (eq-eqb (writeRefusal own lent buffers) 0 none-met)
 
       module _ (W : w .number ≡ 0) (room : 512 * a .«ticket_blocks» ≤ length out) where
         -- the four parts handed on
@@ -242,55 +267,66 @@ module _ (p : Params) (bytes ends marks indexes places table : List ℕ) (n : pr
         abbrev part : List ℕ → List ℕ
         part l = take (p .«proof_size») l
 
-        accepted-parts : listCheck d (part (w .ends)) (part (w .marks)) (part (w .indexes)) ≡ 0
+        accepted-parts : listCheck (lentOf d (part (w .ends)) (part (w .marks)) (part (w .indexes))) ≡ 0
         accepted-parts =
-            subst (λ (k : ℕ). listCheck d (take k (w .ends)) (take k (w .marks)) (take k (w .indexes)) ≡ 0) own-length
-            (written-accepted own bytes ends marks indexes bytes′ ends′ marks′ indexes′ W)
+            subst (λ (k : ℕ). listCheck (lentOf d (take k (w .ends)) (take k (w .marks)) (take k (w .indexes))) ≡ 0) own-length
+            (written-accepted own lent buffers W)
 
-        same-elements : elements d (part (w .ends)) (part (w .marks)) (part (w .indexes)) ≡ map (elementAt all) own
+        same-elements : elements (lentOf d (part (w .ends)) (part (w .marks)) (part (w .indexes))) ≡ map (elementAt all) own
         same-elements =
-            subst (λ (k : ℕ). elements d (take k (w .ends)) (take k (w .marks)) (take k (w .indexes)) ≡ map (elementAt all) own) own-length
-            (written-elements own bytes ends marks indexes bytes′ ends′ marks′ indexes′ W)
+            subst (λ (k : ℕ). elements (lentOf d (take k (w .ends)) (take k (w .marks)) (take k (w .indexes))) ≡ map (elementAt all) own)
+            own-length
+            (written-elements own lent buffers W)
 
         abbrev held : ℕ
-        held = length (content (r .retry) (r .search) (elements d (part (w .ends)) (part (w .marks)) (part (w .indexes))))
+        held = length (content (r .retry) (r .search) (elements (lentOf d (part (w .ends)) (part (w .marks)) (part (w .indexes)))))
 
         held-is : held ≡ length (content (r .retry) (r .search) (map (elementAt all) own))
         held-is = ap (λ (es : List Element). length (content (r .retry) (r .search) es)) same-elements
 
         held-most : held ≤ 24 + p .«proof_size» * (13 + longest)
         held-most =
-            rw held-is (subst (λ (k : ℕ). length (content (r .retry) (r .search) (map (elementAt all) own)) ≤ 24 + k * (13 + longest)) elements-count (content-most longest (r .retry) (r .search) (map (elementAt all) own) own-short))
+            rw held-is (subst (λ (k : ℕ). length (content (r .retry) (r .search) (map (elementAt all) own)) ≤ 24 + k * (13 + longest))
+            elements-count (content-most longest (r .retry) (r .search) (map (elementAt all) own) own-short))
 
         blocks-most : blockCount held ≤ a .«ticket_blocks»
         blocks-most = rw (blocks-are p longest a G) (blocks-rise held (24 + p .«proof_size» * (13 + longest)) held-most)
 
-        made : (ticketWritten (r .retry) (r .search) d (part (w .ends)) (part (w .marks)) (part (w .indexes)) out .number ≡ 0)
-            × (ticketWritten (r .retry) (r .search) d (part (w .ends)) (part (w .marks)) (part (w .indexes)) out .count ≡ blockCount held)
-        made = ticket-made (r .retry) (r .search) d (part (w .ends)) (part (w .marks)) (part (w .indexes)) out accepted-parts (omega (arith, blocks-most, room))
+        made : (ticketWritten (r .retry) (r .search) (lentOf d (part (w .ends)) (part (w .marks)) (part (w .indexes))) out .number ≡ 0)
+            × (ticketWritten (r .retry) (r .search) (lentOf d (part (w .ends)) (part (w .marks)) (part (w .indexes))) out .count
+            ≡ blockCount held)
+        made = ticket-made (r .retry) (r .search) (lentOf d (part (w .ends)) (part (w .marks)) (part (w .indexes))) out accepted-parts
+            (omega (arith, blocks-most, room))
 
         abbrev count : ℕ
-        count = ticketWritten (r .retry) (r .search) d (part (w .ends)) (part (w .marks)) (part (w .indexes)) out .count
+        count = ticketWritten (r .retry) (r .search) (lentOf d (part (w .ends)) (part (w .marks)) (part (w .indexes))) out .count
 
         blocks-within : count ≤ a .«ticket_blocks»
         blocks-within = rw (made .1) blocks-most
 
-        tight : Each (λ (e : Element). (length (e .bytes) ≡ longest) × (markOf (e .index) ≡ 1)) (map (elementAt all) own) → count ≡ a .«ticket_blocks»
+        tight : Each (λ (e : Element). (length (e .bytes) ≡ longest) × (markOf (e .index) ≡ 1)) (map (elementAt all) own)
+            → count ≡ a .«ticket_blocks»
         tight E =
-            made .1 ∙ rw (blocks-are p longest a G, held-is, content-exact longest (r .retry) (r .search) (map (elementAt all) own) E, elements-count)
+            made .1 ∙ rw (
+              blocks-are p longest a G,
+              held-is,
+              content-exact longest (r .retry) (r .search) (map (elementAt all) own) E,
+              elements-count,
+            )
 
 pub ticket-fits : ticketFits
-ticket-fits p longest a P bytes ends marks indexes places table short n bytes′ ends′ marks′ indexes′ out room =
+ticket-fits p longest a P lent places table short n buffers out room =
     let G = given p longest a P in
     record {
-      listed = listed p bytes ends marks indexes places table n longest a G short bytes′ ends′ marks′ indexes′ out;
-      number = λ W. made p bytes ends marks indexes places table n longest a G short bytes′ ends′ marks′ indexes′ out W room .0;
-      blocks = λ W. blocks-within p bytes ends marks indexes places table n longest a G short bytes′ ends′ marks′ indexes′ out W room;
-      tight = λ W E. tight p bytes ends marks indexes places table n longest a G short bytes′ ends′ marks′ indexes′ out W room E;
+      listed = listed p lent places table n longest a G short buffers out;
+      number = λ W. made p lent places table n longest a G short buffers out W room .0;
+      blocks = λ W. blocks-within p lent places table n longest a G short buffers out W room;
+      tight = λ W E. tight p lent places table n longest a G short buffers out W room E;
     }
 
 -- ---- the example, computed
 
 pub tight-example : tightExample
-unfolding planned planRefusal amounts firstNumber checked notOneTo limitBroken ticketWritten ticketWriteRefusal listCheck malformed tooLarge dataLong endWrong someOf content elementsBytes elementBytes elementsFrom bytesOf
+unfolding planned planRefusal amounts firstNumber checked notOneTo limitBroken ticketWritten ticketWriteRefusal listCheck malformed tooLarge
+    dataLong endWrong someOf content elementsBytes elementBytes elementsFrom bytesOf
 tight-example = (refl, λ R S. (refl, refl))

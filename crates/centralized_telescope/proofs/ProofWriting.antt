@@ -9,10 +9,11 @@ use borrow.Author.Tests.{eq-eqb, ne-eqb, ltb-false}
 use lib.Dec.{ltb}
 use lib.ListN.{length, getD, take, drop, set, length-append, length-drop, length-map, drop-of-length-le}
 use lib.Seq.{drop-cons, length-take-le, take-at, drop-append-add, drop-drop, take-all}
-use Rattle.centralized_telescope.specs.Elements.{Element, elementAt, elements, indexOf, markOf, numberOf, listCheck}
+use Rattle.centralized_telescope.specs.Elements.{Element, elementAt, elements, indexOf, markOf, numberOf, listCheck, Lent, lentOf}
 use Rattle.centralized_telescope.specs.laws.ElementsLaws.{data-there, data-short, index-there}
 use Rattle.centralized_telescope.specs.declared.proof_list.Written.the-variants as w
-use Rattle.centralized_telescope.specs.ProofList.{placeOut, joined, endsFrom, marksOf, indexesOf, chosen, ProofList, listOver, proofListOf, buffersShort}
+use Rattle.centralized_telescope.specs.ProofList.{placeOut, joined, endsFrom, marksOf, indexesOf, chosen, ProofList, listOver}
+use Rattle.centralized_telescope.specs.ProofList.{proofListOf, buffersShort}
 use Rattle.centralized_telescope.specs.laws.TestLaws.{neither}
 use Rattle.centralized_telescope.specs.Lists.{over}
 use Rattle.centralized_telescope.specs.inner.ListReading.{dataAt, indexAt, dataOf}
@@ -30,7 +31,8 @@ mark-one mark v k = rw (eq-eqb mark 1 k) (refl, refl)
 -- ---- the data of the elements at the places behind
 
 module _ (d n ps : List ℕ) (i : ℕ) where
-  pub data-more : i < length ps → length (dataOf d n (drop i ps)) ≡ length (dataAt d n (getD ps i 0)) + length (dataOf d n (drop (i + 1) ps))
+  pub data-more : i < length ps
+      → length (dataOf d n (drop i ps)) ≡ length (dataAt d n (getD ps i 0)) + length (dataOf d n (drop (i + 1) ps))
   unfolding dataOf
   data-more h = rw (add-one, drop-cons ps i 0 h) (length-append (dataAt d n (getD ps i 0)) (dataOf d n (drop (suc i) ps)))
 
@@ -62,7 +64,8 @@ pub record Rooms (count size bytes ends marks indexes : ℕ) : Type 0 where
   pub indexes-room : count ≤ indexes
   pub data-room : size ≤ bytes
 
-pub rooms : (count size bytes ends marks indexes : ℕ) → buffersShort count size bytes ends marks indexes ≡ false → Rooms count size bytes ends marks indexes
+pub rooms : (count size bytes ends marks indexes : ℕ) → buffersShort count size bytes ends marks indexes ≡ false
+    → Rooms count size bytes ends marks indexes
 unfolding buffersShort
 rooms count size bytes ends marks indexes h =
     let n = neither (ltb ends count) h in
@@ -82,7 +85,12 @@ unfolding joined
 data-within f [] i h = absurd (omega arith)
 data-within f (p ∷ ps) zero h = omega (arith, length-append (f p .bytes) (joined (map f ps)))
 data-within f (p ∷ ps) (suc i) h =
-    omega (arith, data-within f ps i (omega arith), length-append (f p .bytes) (joined (map f ps)), length-append (f p .bytes) (joined (map f (take i ps))))
+    omega (
+      arith,
+      data-within f ps i (omega arith),
+      length-append (f p .bytes) (joined (map f ps)),
+      length-append (f p .bytes) (joined (map f (take i ps))),
+    )
 
 -- ---- one element more
 
@@ -112,19 +120,23 @@ over-append xs ys s =
     )
 
 -- in a buffer that holds xs, the number behind them
-set-more : (k v u : ℕ) (n′ n xs ys : List ℕ) → n′ ≡ over xs n → length xs ≡ k → k < length n → v ≡ u → ys ≡ xs ++ (u ∷ []) → set n′ k v ≡ over ys n
+set-more : (k v u : ℕ) (n′ n xs ys : List ℕ) → n′ ≡ over xs n → length xs ≡ k → k < length n → v ≡ u → ys ≡ xs ++ (u ∷ [])
+    → set n′ k v ≡ over ys n
 set-more k v u n′ n xs ys B K N U Y = rw (B, U, Y) (over-set k u xs n K N)
 
-same : {k k′ : ℕ} {b b′ n n′ m m′ x x′ : List ℕ} → k ≡ k′ → b ≡ b′ → n ≡ n′ → m ≡ m′ → x ≡ x′ → proofListOf (w.List k) b n m x ≡ proofListOf (w.List k′) b′ n′ m′ x′
+same : {k k′ : ℕ} {b b′ n n′ m m′ x x′ : List ℕ} → k ≡ k′ → b ≡ b′ → n ≡ n′ → m ≡ m′ → x ≡ x′
+    → proofListOf (w.List k) (lentOf b n m x) ≡ proofListOf (w.List k′) (lentOf b′ n′ m′ x′)
 same K B N M X = rw (K, B, N, M, X)
 
 module _ (es : List Element) (e : Element) (b n m x : List ℕ) where
   -- with those before it written, and its own data, mark and index in hand
-  pub written-more : (k used : ℕ) (b′ n′ m′ x′ own t : List ℕ) (mark number : ℕ) → proofListOf (w.List used) b′ n′ m′ x′ ≡ listOver es b n m x
+  pub written-more : (k used : ℕ) (b′ n′ m′ x′ own t : List ℕ) (mark number : ℕ)
+      → proofListOf (w.List used) (lentOf b′ n′ m′ x′) ≡ listOver es (lentOf b n m x)
       → length es ≡ k → k < length n → k < length m → k < length x
       → own ≡ e .bytes → mark ≡ markOf (e .index) → number ≡ numberOf (e .index)
       → t ≡ take used b′ ++ (own ++ drop (used + length own) b′)
-      → proofListOf (w.List (used + length own)) t (set n′ k (used + length own)) (set m′ k mark) (set x′ k number) ≡ listOver (es ++ (e ∷ [])) b n m x
+      → proofListOf (w.List (used + length own)) (lentOf t (set n′ k (used + length own)) (set m′ k mark) (set x′ k number))
+      ≡ listOver (es ++ (e ∷ [])) (lentOf b n m x)
   unfolding listOver
   written-more k used b′ n′ m′ x′ own t mark number W K N M X O A I C =
       let U : used ≡ length (joined es) = ap (λ (w : ProofList). w .len) W in
@@ -135,52 +147,60 @@ module _ (es : List Element) (e : Element) (b n m x : List ℕ) where
       (set-more k (used + length own) (0 + length (joined es) + length (e .bytes)) n′ n (endsFrom 0 es) (endsFrom 0 (es ++ (e ∷ [])))
       (ap (λ (w : ProofList). w .ends) W) (length-ends 0 es ∙ K) N (omega arith) (ends-more 0 es e))
       (set-more k mark (markOf (e .index)) m′ m (marksOf es) (marksOf (es ++ (e ∷ [])))
-      (ap (λ (w : ProofList). w .marks) W) (length-map es (λ (a : Element). markOf (a .index)) ∙ K) M A (map-append (λ (a : Element). markOf (a .index)) es (e ∷ [])))
+      (ap (λ (w : ProofList). w .marks) W) (length-map es (λ (a : Element). markOf (a .index)) ∙ K) M A
+      (map-append (λ (a : Element). markOf (a .index)) es (e ∷ [])))
       (set-more k number (numberOf (e .index)) x′ x (indexesOf es) (indexesOf (es ++ (e ∷ [])))
-      (ap (λ (w : ProofList). w .indexes) W) (length-map es (λ (a : Element). numberOf (a .index)) ∙ K) X I (map-append (λ (a : Element). numberOf (a .index)) es (e ∷ [])))
+      (ap (λ (w : ProofList). w .indexes) W) (length-map es (λ (a : Element). numberOf (a .index)) ∙ K) X I
+      (map-append (λ (a : Element). numberOf (a .index)) es (e ∷ [])))
 
 -- ---- none is written yet, and one turn
 
-pub none-written : (b n m x : List ℕ) → proofListOf (w.List 0) b n m x ≡ listOver [] b n m x
+pub none-written : (b n m x : List ℕ) → proofListOf (w.List 0) (lentOf b n m x) ≡ listOver [] (lentOf b n m x)
 unfolding listOver joined endsFrom
 none-written b n m x = refl
 
 pub one-written : (f : ℕ → Element) (ps : List ℕ) (i : ℕ) → i < length ps
     → (b n m x : List ℕ) (used : ℕ) (b′ n′ m′ x′ own t : List ℕ) (mark number : ℕ)
-    → proofListOf (w.List used) b′ n′ m′ x′ ≡ listOver (map f (take i ps)) b n m x
+    → proofListOf (w.List used) (lentOf b′ n′ m′ x′) ≡ listOver (map f (take i ps)) (lentOf b n m x)
     → i < length n → i < length m → i < length x
     → own ≡ f (getD ps i 0) .bytes → mark ≡ markOf (f (getD ps i 0) .index) → number ≡ numberOf (f (getD ps i 0) .index)
     → t ≡ take used b′ ++ (own ++ drop (used + length own) b′)
-    → proofListOf (w.List (used + length own)) t (set n′ i (used + length own)) (set m′ i mark) (set x′ i number) ≡ listOver (map f (take (i + 1) ps)) b n m x
+    → proofListOf (w.List (used + length own)) (lentOf t (set n′ i (used + length own)) (set m′ i mark) (set x′ i number))
+    ≡ listOver (map f (take (i + 1) ps)) (lentOf b n m x)
 one-written f ps i h b n m x used b′ n′ m′ x′ own t mark number W N M X O A I C =
     let K : length (map f (take i ps)) ≡ i = length-map (take i ps) f ∙ length-take-le i ps (omega arith) in
-    rw (map-more f ps i 0 h) (written-more (map f (take i ps)) (f (getD ps i 0)) b n m x i used b′ n′ m′ x′ own t mark number W K N M X O A I C)
+    rw (map-more f ps i 0 h)
+    (written-more (map f (take i ps)) (f (getD ps i 0)) b n m x i used b′ n′ m′ x′ own t mark number W K N M X O A I C)
 
 -- ---- the element of a turn
 
-pub used-is : (es : List Element) (b n m x : List ℕ) (used : ℕ) (b′ n′ m′ x′ : List ℕ) → proofListOf (w.List used) b′ n′ m′ x′ ≡ listOver es b n m x → used ≡ length (joined es)
+pub used-is : (es : List Element) (b n m x : List ℕ) (used : ℕ) (b′ n′ m′ x′ : List ℕ)
+    → proofListOf (w.List used) (lentOf b′ n′ m′ x′) ≡ listOver es (lentOf b n m x) → used ≡ length (joined es)
 unfolding listOver
 used-is es b n m x used b′ n′ m′ x′ W = ap (λ (w : ProofList). w .len) W
 
-module _ (d n m x : List ℕ) (A : listCheck d n m x ≡ 0) (ps : List ℕ) (P : placeOut (length n) ps ≡ false) (i : ℕ) (h : i < length ps) where
+module _ (lent : Lent) (A : listCheck lent ≡ 0) (ps : List ℕ) (P : placeOut (length (lent .ends)) ps ≡ false) (i : ℕ)
+    (h : i < length ps) where
+  open Lent lent using (bytes as d, ends as n, marks as m, indexes as x)
+
   pub in-list : getD ps i 0 < length n
   in-list = place-within (length n) ps i h P
 
   abbrev there : Element
-  there = elementAt (elements d n m x) (getD ps i 0)
+  there = elementAt (elements lent) (getD ps i 0)
 
   module _ (own : List ℕ) (O : own ≡ dataAt d n (getD ps i 0)) where
     pub own-is : own ≡ there .bytes
-    own-is = O ∙ sym (data-there d n m x A (getD ps i 0) in-list)
+    own-is = O ∙ sym (data-there lent A (getD ps i 0) in-list)
 
     pub own-short : length own ≤ 4096
-    own-short = rw O (data-short d n m x A (getD ps i 0) in-list)
+    own-short = rw O (data-short lent A (getD ps i 0) in-list)
 
-    pub own-fits : (used : ℕ) → used ≡ length (joined (chosen (take i ps) d n m x)) → used + length own ≤ length (joined (chosen ps d n m x))
-    own-fits used U = omega (arith, ap length own-is, data-within (elementAt (elements d n m x)) ps i h)
+    pub own-fits : (used : ℕ) → used ≡ length (joined (chosen (take i ps) lent)) → used + length own ≤ length (joined (chosen ps lent))
+    own-fits used U = omega (arith, ap length own-is, data-within (elementAt (elements lent)) ps i h)
 
   pub mark-is : (mark : ℕ) → mark ≡ markOf (indexAt m x (getD ps i 0)) → mark ≡ markOf (there .index)
-  mark-is mark e = e ∙ ap markOf (sym (index-there d n m x A (getD ps i 0) in-list))
+  mark-is mark e = e ∙ ap markOf (sym (index-there lent A (getD ps i 0) in-list))
 
   pub number-is : (number : ℕ) → number ≡ numberOf (indexAt m x (getD ps i 0)) → number ≡ numberOf (there .index)
-  number-is number e = e ∙ ap numberOf (sym (index-there d n m x A (getD ps i 0) in-list))
+  number-is number e = e ∙ ap numberOf (sym (index-there lent A (getD ps i 0) in-list))

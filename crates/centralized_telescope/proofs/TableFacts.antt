@@ -7,7 +7,7 @@ use lib.ListN.{length, getD, length-append, length-take}
 use lib.Seq.{slice}
 use Rattle.centralized_telescope.specs.declared.params.Params.{Params}
 use Rattle.centralized_telescope.specs.laws.ParamsLaws.{Lawful, lawful}
-use Rattle.centralized_telescope.specs.Elements.{elements, elementAt}
+use Rattle.centralized_telescope.specs.Elements.{elements, elementAt, Lent}
 use Rattle.centralized_telescope.specs.laws.ElementsLaws.{length-elements, at-kept}
 use Rattle.centralized_telescope.specs.Bins.{startOf, tableOf}
 use Rattle.centralized_telescope.specs.laws.BinsLaws.{length-table, starts-ascend, start-bound, table-start, table-part, table-entry}
@@ -16,10 +16,10 @@ use Rattle.centralized_telescope.specs.Search.{binsOf, placesIn}
 use Rattle.centralized_telescope.specs.laws.TryLaws.{length-binList}
 use Rattle.centralized_telescope.specs.inner.Visit.{tryOn, Ready, Span}
 
-module _ {p : Params} {bytes ends marks indexes : List ℕ} {R : ℕ} {table : List ℕ} {room : ℕ}
-    (r : Ready p bytes ends marks indexes R table room) where
+module _ {p : Params} {lent : Lent} {R : ℕ} {table : List ℕ} {room : ℕ}
+    (r : Ready p lent R table room) where
   abbrev T : Try
-  T = tryOn p bytes ends marks indexes R
+  T = tryOn p lent R
 
   abbrev N : ℕ
   N = p .«set_size»
@@ -40,14 +40,14 @@ module _ {p : Params} {bytes ends marks indexes : List ℕ} {R : ℕ} {table : L
 
   -- ---- the kept elements
 
-  length-kept : length (T .kept) ≤ length ends
-  length-kept = omega (arith, length-take (2 * N) (elements bytes ends marks indexes), length-elements bytes ends marks indexes (r .list))
+  length-kept : length (T .kept) ≤ length (lent .ends)
+  length-kept = omega (arith, length-take (2 * N) (elements lent), length-elements lent (r .list))
 
   kept-most : length (T .kept) ≤ 2 * N
-  kept-most = omega (arith, length-take (2 * N) (elements bytes ends marks indexes))
+  kept-most = omega (arith, length-take (2 * N) (elements lent))
 
-  pub same-element : (place : ℕ) → place < length (T .kept) → elementAt (elements bytes ends marks indexes) place ≡ elementAt (T .kept) place
-  same-element place l = at-kept (2 * N) (elements bytes ends marks indexes) place l
+  pub same-element : (place : ℕ) → place < length (T .kept) → elementAt (elements lent) place ≡ elementAt (T .kept) place
+  same-element place l = at-kept (2 * N) (elements lent) place l
 
   -- ---- the table
 
@@ -86,7 +86,7 @@ module _ {p : Params} {bytes ends marks indexes : List ℕ} {R : ℕ} {table : L
       let e = table-entry N bins (r .rest) j l (omega (arith, start-is N (omega arith))) in
       omega (arith, e, length-binList N R (T .kept), ap (λ (t : List ℕ). getD t j 0) (r .table-is))
 
-  pub entry-there : (j : ℕ) → N + 1 ≤ j → j < N + 1 + getD table N 0 → getD table j 0 < length ends
+  pub entry-there : (j : ℕ) → N + 1 ≤ j → j < N + 1 + getD table N 0 → getD table j 0 < length (lent .ends)
   entry-there j l h = omega (arith, entry-kept j l h, length-kept)
 
   pub table-bin : (i : ℕ) → i < N → slice (N + 1 + getD table i 0) (N + 1 + getD table (i + 1) 0) table ≡ placesIn T i

@@ -13,11 +13,13 @@ use Rattle.centralized_telescope.specs.declared.errors.Refusal.{Refusal}
 use Rattle.centralized_telescope.specs.declared.errors.Refusal.the-variants as refusal
 use Rattle.centralized_telescope.specs.Lists.{over}
 use Rattle.centralized_telescope.specs.Refusals.{refusalNumber}
-use Rattle.centralized_telescope.specs.Elements.{Element, elements, listCheck}
-use Rattle.centralized_telescope.specs.ProofList.{ProofList, joined, listOver, buffersShort}
+use Rattle.centralized_telescope.specs.Elements.{Element, elements, listCheck, Lent, lentOf}
+use Rattle.centralized_telescope.specs.ProofList.{ProofList, joined, listOver, buffersShort, withBuffers}
 use Rattle.centralized_telescope.specs.Blocks.{blockCount, filled, sealed, blocks, bodiesOf, damaged}
-use Rattle.centralized_telescope.specs.Tickets.{content, ticket, TicketWritten, ticketWriteRefusal, ticketWritten, retryIn, searchIn, countIn, elementsIn, proofIn, isTicket, TicketRead, unread, readOut, ticketReadRefusal, ticketRead, elementsPart}
-use Rattle.centralized_telescope.specs.inner.TicketReading.{FoundIs, listed}
+use Rattle.centralized_telescope.specs.Tickets.{content, ticket, TicketWritten, ticketWriteRefusal, ticketWritten, retryIn, searchIn}
+use Rattle.centralized_telescope.specs.Tickets.{countIn, elementsIn, proofIn, isTicket, TicketRead, unread, readOut}
+use Rattle.centralized_telescope.specs.Tickets.{ticketReadRefusal, ticketRead, elementsPart}
+use Rattle.centralized_telescope.specs.inner.TicketReading.{FoundIs}
 use Rattle.centralized_telescope.specs.laws.RefusalsLaws.{refusal-number}
 use Rattle.centralized_telescope.specs.laws.ListsLaws.{number-passed, number-met, second-met, two-passed, number-last}
 use Rattle.centralized_telescope.specs.laws.TicketsLaws.{elements-count, data-size}
@@ -28,28 +30,29 @@ use Rattle.centralized_telescope.specs.laws.BlocksLaws.{length-filled, l
 abbrev pub notWritten : ℕ → List ℕ → TicketWritten
 notWritten k out = record { number = k; count = 0; buffer = out }
 
-module _ (R S : ℕ) (d n m x out : List ℕ) where
-  refused : (k : Refusal) → ticketWriteRefusal R S d n m x out ≡ refusalNumber k → notWritten (refusalNumber k) out ≡ ticketWritten R S d n m x out
+module _ (R S : ℕ) (lent : Lent) (out : List ℕ) where
+  refused : (k : Refusal) → ticketWriteRefusal R S lent out ≡ refusalNumber k
+      → notWritten (refusalNumber k) out ≡ ticketWritten R S lent out
   unfolding ticketWritten
   refused k w = rw (w, ne-eqb (refusalNumber k) 0 (refusal-number k))
 
-  list-met : (k : Refusal) → listCheck d n m x ≡ refusalNumber k → ticketWriteRefusal R S d n m x out ≡ refusalNumber k
+  list-met : (k : Refusal) → listCheck lent ≡ refusalNumber k → ticketWriteRefusal R S lent out ≡ refusalNumber k
   unfolding ticketWriteRefusal
-  list-met k l = number-met (listCheck d n m x) _ (refusalNumber k) l (refusal-number k)
+  list-met k l = number-met (listCheck lent) _ (refusalNumber k) l (refusal-number k)
 
-  pub write-refused : (k : Refusal) → listCheck d n m x ≡ refusalNumber k → notWritten (refusalNumber k) out ≡ ticketWritten R S d n m x out
+  pub write-refused : (k : Refusal) → listCheck lent ≡ refusalNumber k → notWritten (refusalNumber k) out ≡ ticketWritten R S lent out
   write-refused k l = refused k (list-met k l)
 
   abbrev body : List ℕ
-  body = content R S (elements d n m x)
+  body = content R S (elements lent)
 
   -- the list is accepted, and the code has worked out how long the content is
-  module _ (A : listCheck d n m x ≡ 0) (size : ℕ) (Z : size ≡ length body) where
-    pub room-met : (t : Bool) → ltb (length out) (512 * blockCount size) ≡ t → ticketWriteRefusal R S d n m x out ≡ cond t 42 0
+  module _ (A : listCheck lent ≡ 0) (size : ℕ) (Z : size ≡ length body) where
+    pub room-met : (t : Bool) → ltb (length out) (512 * blockCount size) ≡ t → ticketWriteRefusal R S lent out ≡ cond t 42 0
     unfolding ticketWriteRefusal
-    room-met t e = number-passed (listCheck d n m x) _ A ∙ rw (← Z, e) (number-last (cond t 42 0))
+    room-met t e = number-passed (listCheck lent) _ A ∙ rw (← Z, e) (number-last (cond t 42 0))
 
-    pub write-short : length out < 512 * blockCount size → notWritten 42 out ≡ ticketWritten R S d n m x out
+    pub write-short : length out < 512 * blockCount size → notWritten 42 out ≡ ticketWritten R S lent out
     write-short h = refused refusal.BufferShort (room-met true (lt-ltb (length out) (512 * blockCount size) h))
 
     module _ (h : 512 * blockCount size ≤ length out) where
@@ -63,17 +66,28 @@ module _ (R S : ℕ) (d n m x out : List ℕ) where
 
         filling : z ≡ replicate (bodies - size) 0
         filling =
-            let l : length (midOf size (bodies - size) out₁) ≡ bodies - size = rw behind (length-take-le (bodies - size) (drop size out) (omega (arith, length-drop size out))) in
+            let l : length (midOf size (bodies - size) out₁) ≡ bodies - size =
+            rw behind (length-take-le (bodies - size) (drop size out) (omega (arith, length-drop size out))) in
             F ∙ ap (λ (k : ℕ). replicate k 0) l
 
         in-bodies : putMid size (bodies - size) out₁ z ≡ filled body ++ drop bodies out
         unfolding filled
         in-bodies =
             let r : size + (bodies - size) ≡ bodies = omega arith in
-            rw (behind, drop-drop (bodies - size) size out, r, E, take-at body (drop (length body) out) size (sym Z), filling, append-assoc body, ← Z)
+            rw (
+              behind,
+              drop-drop (bodies - size) size out,
+              r,
+              E,
+              take-at body (drop (length body) out) size (sym Z),
+              filling,
+              append-assoc body,
+              ← Z,
+            )
 
         -- the blocks of the content, and what lay past them
-        all-sealed : sealed (blockCount size) (filled body ++ drop bodies out) ++ drop (512 * blockCount size) (filled body ++ drop bodies out) ≡ over (ticket R S (elements d n m x)) out
+        all-sealed : sealed (blockCount size) (filled body ++ drop bodies out)
+            ++ drop (512 * blockCount size) (filled body ++ drop bodies out) ≡ over (ticket R S (elements lent)) out
         unfolding ticket blocks
         all-sealed =
             let c = ap blockCount Z in
@@ -85,39 +99,44 @@ module _ (R S : ℕ) (d n m x out : List ℕ) where
             ∙ drop-append-add (filled body) (drop bodies out) (8 * blockCount size)
             ∙ drop-drop (8 * blockCount size) bodies out
             ∙ ap (λ (k : ℕ). drop k out) p)
-            ∙ ap (λ (t : List ℕ). t ++ drop (length (blocks body)) out) (sealed-front (blockCount size) (filled body) (drop bodies out) l ∙ ap (λ (k : ℕ). sealed k (filled body)) c)
+            ∙ ap (λ (t : List ℕ). t ++ drop (length (blocks body)) out)
+            (sealed-front (blockCount size) (filled body) (drop bodies out) l ∙ ap (λ (k : ℕ). sealed k (filled body)) c)
 
-        pub write-done : (out₃ : List ℕ) → out₃ ≡ sealed (blockCount size) (putMid size (bodies - size) out₁ z) ++ drop (512 * blockCount size) (putMid size (bodies - size) out₁ z)
-            → _≡_ {A = TicketWritten} (record { number = 0; count = blockCount size; buffer = out₃ }) (ticketWritten R S d n m x out)
+        pub write-done : (out₃ : List ℕ)
+            → out₃ ≡ sealed (blockCount size) (putMid size (bodies - size) out₁ z)
+            ++ drop (512 * blockCount size) (putMid size (bodies - size) out₁ z)
+            → _≡_ {A = TicketWritten} (record { number = 0; count = blockCount size; buffer = out₃ }) (ticketWritten R S lent out)
         unfolding ticketWritten
         write-done out₃ G = rw (room-met false (le-ltb (length out) (512 * blockCount size) h), ← Z, G, in-bodies, all-sealed)
 
 -- ---- the reader
 
-module _ (t b n m x : List ℕ) where
+module _ (t : List ℕ) (buffers : Lent) where
+  open Lent buffers using (bytes as b, ends as n, marks as m, indexes as x)
+
   abbrev bs : List ℕ
   bs = bodiesOf t
 
   abbrev es : List Element
   es = proofIn (bodiesOf t)
 
-  unread-is : (k : Refusal) → ticketReadRefusal t b n m x ≡ refusalNumber k → unread (refusalNumber k) b n m x ≡ ticketRead t b n m x
+  unread-is : (k : Refusal) → ticketReadRefusal t buffers ≡ refusalNumber k → unread (refusalNumber k) buffers ≡ ticketRead t buffers
   unfolding ticketRead
   unread-is k w = rw (w, ne-eqb (refusalNumber k) 0 (refusal-number k))
 
-  damaged-met : damaged t ≡ true → ticketReadRefusal t b n m x ≡ 40
+  damaged-met : damaged t ≡ true → ticketReadRefusal t buffers ≡ 40
   unfolding ticketReadRefusal
   damaged-met e = number-met (cond (damaged t) 40 0) _ 40 (rw e) (refusal-number refusal.DamagedTicket)
 
-  pub read-damaged : damaged t ≡ true → unread 40 b n m x ≡ ticketRead t b n m x
+  pub read-damaged : damaged t ≡ true → unread 40 buffers ≡ ticketRead t buffers
   read-damaged e = unread-is refusal.DamagedTicket (damaged-met e)
 
   module _ (D : damaged t ≡ false) where
-    layout-met : isTicket t ≡ false → ticketReadRefusal t b n m x ≡ 41
+    layout-met : isTicket t ≡ false → ticketReadRefusal t buffers ≡ 41
     unfolding ticketReadRefusal
     layout-met e = second-met (cond (damaged t) 40 0) (cond (isTicket t) 0 41) _ 41 (rw D) (rw e) (refusal-number refusal.NoTicket)
 
-    pub no-ticket : isTicket t ≡ false → unread 41 b n m x ≡ ticketRead t b n m x
+    pub no-ticket : isTicket t ≡ false → unread 41 buffers ≡ ticketRead t buffers
     no-ticket e = unread-is refusal.NoTicket (layout-met e)
 
     -- by the number of elements and of data bytes that the code has found
@@ -126,27 +145,32 @@ module _ (t b n m x : List ℕ) where
       count-is = F .counted ∙ sym (elements-count (countIn bs) (elementsPart bs))
 
       size-is : size ≡ length (joined es)
-      size-is = F .uses ∙ data-size count (elementsPart bs) (F .laid) ∙ ap (λ (k : ℕ). length (joined (elementsIn k (elementsPart bs)))) (F .counted)
+      size-is =
+          F .uses ∙ data-size count (elementsPart bs) (F .laid)
+          ∙ ap (λ (k : ℕ). length (joined (elementsIn k (elementsPart bs)))) (F .counted)
 
       abbrev short : Bool
       short = buffersShort count size (length b) (length n) (length m) (length x)
 
-      room-says : (u v : Bool) → u ≡ short → u ≡ v → ticketReadRefusal t b n m x ≡ cond v 42 0
+      room-says : (u v : Bool) → u ≡ short → u ≡ v → ticketReadRefusal t buffers ≡ cond v 42 0
       unfolding ticketReadRefusal
       room-says u v e f =
-          two-passed (cond (damaged t) 40 0) (cond (isTicket t) 0 41) _ (rw D) (rw (F .is)) ∙ rw (← count-is, ← size-is, sym e ∙ f) (number-last (cond v 42 0))
+          two-passed (cond (damaged t) 40 0) (cond (isTicket t) 0 41) _ (rw D) (rw (F .is))
+          ∙ rw (← count-is, ← size-is, sym e ∙ f) (number-last (cond v 42 0))
 
-      pub room-short : (u : Bool) → u ≡ short → u ≡ true → unread 42 b n m x ≡ ticketRead t b n m x
+      pub room-short : (u : Bool) → u ≡ short → u ≡ true → unread 42 buffers ≡ ticketRead t buffers
       room-short u e f = unread-is refusal.BufferShort (room-says u true e f)
 
       pub read-done : (R S len : ℕ) (b′ n′ m′ x′ : List ℕ) (u : Bool) → u ≡ short → u ≡ false
-          → R ≡ retryIn bs → S ≡ searchIn bs → listed len b′ n′ m′ x′ ≡ listOver (elementsIn count (elementsPart bs)) b n m x
+          → R ≡ retryIn bs → S ≡ searchIn bs
+          → withBuffers 0 len (lentOf b′ n′ m′ x′) ≡ listOver (elementsIn count (elementsPart bs)) buffers
           → _≡_ {A = TicketRead}
           (record { number = 0; retry = R; search = S; count = count; len = len; bytes = b′; ends = n′; marks = m′; indexes = x′ })
-          (ticketRead t b n m x)
+          (ticketRead t buffers)
       unfolding ticketRead readOut listOver
       read-done R S len b′ n′ m′ x′ u e f P Q W =
-          let same : listed len b′ n′ m′ x′ ≡ listOver es b n m x = W ∙ ap (λ (k : ℕ). listOver (elementsIn k (elementsPart bs)) b n m x) (F .counted) in
+          let same : withBuffers 0 len (lentOf b′ n′ m′ x′) ≡ listOver es buffers =
+          W ∙ ap (λ (k : ℕ). listOver (elementsIn k (elementsPart bs)) buffers) (F .counted) in
           rw (
             room-says u false e f,
             P,

@@ -14,11 +14,12 @@ use Rattle.sampling.specs.BigEndian.{bigEndian}
 use Rattle.sampling.specs.laws.BigEndianLaws.{bigEndian-append}
 use Rattle.centralized_telescope.specs.Lists.{someOf}
 use Rattle.centralized_telescope.specs.Blocks.{bodies, bodiesOf}
-use Rattle.centralized_telescope.specs.Elements.{Element}
-use Rattle.centralized_telescope.specs.ProofList.{listOver}
+use Rattle.centralized_telescope.specs.Elements.{Element, lentOf}
+use Rattle.centralized_telescope.specs.ProofList.{listOver, withBuffers}
 use Rattle.centralized_telescope.specs.Tickets.{blocksIn, elementIn, elementsIn, elementsPart}
 use Rattle.centralized_telescope.specs.declared.ticket.HeadRead.{HeadRead}
-use Rattle.centralized_telescope.specs.inner.TicketReading.{listed, markIn, headSize, sizeIn, laidOut, HeadIs, allLaidOut, layoutSize, dataSize, LayoutIs, fillingRight}
+use Rattle.centralized_telescope.specs.inner.TicketReading.{markIn, headSize, sizeIn, laidOut, HeadIs, allLaidOut, layoutSize}
+use Rattle.centralized_telescope.specs.inner.TicketReading.{dataSize, LayoutIs, fillingRight}
 use Rattle.centralized_telescope.specs.laws.TestLaws.{refuted, both}
 use Rattle.centralized_telescope.specs.laws.BytesLaws.{number-front}
 use Rattle.centralized_telescope.specs.laws.BlocksLaws.{length-bodies}
@@ -37,7 +38,8 @@ left-of-bodies t at = length-drop at (bodiesOf t) ∙ ap (λ (n : ℕ). n - at) 
 
 pub field-copied : (t : List ℕ) (at k : ℕ) (z r : List ℕ) → at + k ≤ 504 * (length t / 512)
     → r ≡ take 0 z ++ (take k (drop at (bodiesOf t)) ++ drop (0 + k) z) → bigEndian k (drop 0 r) ≡ bigEndian k (drop at (bodiesOf t))
-field-copied t at k z r h e = rw e (number-front k k (drop at (bodiesOf t)) (drop (0 + k) z) (omega arith) (omega (arith, left-of-bodies t at)))
+field-copied t at k z r h e =
+    rw e (number-front k k (drop at (bodiesOf t)) (drop (0 + k) z) (omega arith) (omega (arith, left-of-bodies t at)))
 
 -- ---- the number of blocks: less than one block states none
 
@@ -132,7 +134,8 @@ module _ (t : List ℕ) (count i at used : ℕ) (p : Passed t count i at used) w
         let s : List ℕ = drop at (bodiesOf t) in
         let f = element-laid s (R .laid) in
         let l = left-of-bodies t at in
-        let d : drop (headSize s + sizeIn s) s ≡ drop (at + (r .len + r .size)) (bodiesOf t) = rw (← R .len, ← R .size) (drop-drop (r .len + r .size) at (bodiesOf t)) in
+        let d : drop (headSize s + sizeIn s) s ≡ drop (at + (r .len + r .size)) (bodiesOf t) =
+        rw (← R .len, ← R .size) (drop-drop (r .len + r .size) at (bodiesOf t)) in
         record {
           most = omega arith;
           within = omega (arith, R .len, R .size);
@@ -174,11 +177,20 @@ module _ (t : List ℕ) (count i at : ℕ) (h : i < count) (F : Rest t count i a
   in-count : i < length (elementsOf t count)
   in-count = omega (arith, elements-count count (elementsPart (bodiesOf t)))
 
-  split : there ∷ elementsIn (count - (i + 1)) (drop (at + (r .len + r .size)) (bodiesOf t)) ≡ getD (elementsOf t count) i there ∷ drop (i + 1) (elementsOf t count)
+  split : there ∷ elementsIn (count - (i + 1)) (drop (at + (r .len + r .size)) (bodiesOf t))
+      ≡ getD (elementsOf t count) i there ∷ drop (i + 1) (elementsOf t count)
   split =
       let n : count - i ≡ suc (count - suc i) = omega arith in
       let m = elements-more (count - suc i) (drop at (bodiesOf t)) (R .laid) in
-      rw (← drop-drop (r .len + r .size) at (bodiesOf t), R .len, R .size, add-one i, ← drop-cons (elementsOf t count) i there in-count, ← F, n) (sym m)
+      rw (
+        ← drop-drop (r .len + r .size) at (bodiesOf t),
+        R .len,
+        R .size,
+        add-one i,
+        ← drop-cons (elementsOf t count) i there in-count,
+        ← F,
+        n,
+      ) (sym m)
 
   pub rest-more : Rest t count (i + 1) (at + (r .len + r .size))
   rest-more = cc split
@@ -198,15 +210,17 @@ module _ (t : List ℕ) (count i at : ℕ) (h : i < count) (F : Rest t count i a
   own-size = ap length own-is ∙ element-laid (drop at (bodiesOf t)) (R .laid) .own-size ∙ sym (R .size)
 
   pub one-read : (b n m x : List ℕ) (used : ℕ) (b′ n′ m′ x′ o : List ℕ)
-      → listed used b′ n′ m′ x′ ≡ listOver (take i (elementsOf t count)) b n m x
+      → withBuffers 0 used (lentOf b′ n′ m′ x′) ≡ listOver (take i (elementsOf t count)) (lentOf b n m x)
       → i < length n → i < length m → i < length x
       → o ≡ take used b′ ++ (own ++ drop (used + r .size) b′)
-      → listed (used + r .size) o (set n′ i (used + r .size)) (set m′ i (r .mark)) (set x′ i (r .«index»)) ≡ listOver (take (i + 1) (elementsOf t count)) b n m x
+      → withBuffers 0 (used + r .size) (lentOf o (set n′ i (used + r .size)) (set m′ i (r .mark)) (set x′ i (r .«index»)))
+      ≡ listOver (take (i + 1) (elementsOf t count)) (lentOf b n m x)
   one-read b n m x used b′ n′ m′ x′ o W N M X C =
       let f = element-laid (drop at (bodiesOf t)) (R .laid) in
       rw (first-more, ← own-size)
       (written-more (take i (elementsOf t count)) there b n m x i used b′ n′ m′ x′ own o (r .mark) (r .«index») W
-      (length-take-le i (elementsOf t count) (omega (arith, in-count))) N M X own-is (R .mark ∙ sym (f .mark)) (R .index ∙ sym (f .number)) (rw own-size C))
+      (length-take-le i (elementsOf t count) (omega (arith, in-count))) N M X own-is (R .mark ∙ sym (f .mark)) (R .index ∙ sym (f .number))
+      (rw own-size C))
 
 pub all-read : (t : List ℕ) (count i : ℕ) → count ≤ i → take i (elementsOf t count) ≡ elementsOf t count
 all-read t count i h = take-all i (elementsOf t count) (omega (arith, elements-count count (elementsPart (bodiesOf t))))

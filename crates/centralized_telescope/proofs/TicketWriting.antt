@@ -11,7 +11,7 @@ use lib.ListN.{length, take, drop, length-append, take-append-drop}
 use lib.Seq.{take-at, drop-at, take-all, take-suc, drop-append-add, drop-drop}
 use Rattle.sampling.specs.BigEndian.{bytesOf}
 use Rattle.sampling.specs.laws.BigEndianLaws.{length-bytesOf}
-use Rattle.centralized_telescope.specs.Elements.{Element, elementAt, elements, indexOf, markOf, numberOf, listCheck}
+use Rattle.centralized_telescope.specs.Elements.{Element, elementAt, elements, indexOf, markOf, numberOf, listCheck, Lent}
 use Rattle.centralized_telescope.specs.Lists.{over}
 use Rattle.centralized_telescope.specs.Blocks.{blockCount}
 use Rattle.centralized_telescope.specs.Tickets.{headBytes, elementBytes, elementsBytes, content}
@@ -26,11 +26,14 @@ use Rattle.centralized_telescope.proofs.ProofWriting.{over-append}
 pub head-plain : (mark v size : ℕ) (r z : List ℕ) → (mark ≡ 1 → ⊥) → r ≡ bytesOf 4 size
     → (5 ≤ suc (length (r ++ z))) × (take 5 (0 ∷ (r ++ z)) ≡ headBytes (indexOf mark v) size)
 head-plain mark v size r z k e =
-    rw (ne-eqb mark 1 k, e)
-    (omega (arith, length-append (bytesOf 4 size) z, length-bytesOf 4 size), ap (λ (l : List ℕ). 0 ∷ l) (take-at (bytesOf 4 size) z 4 (length-bytesOf 4 size)))
+    rw (ne-eqb mark 1 k, e) (
+      omega (arith, length-append (bytesOf 4 size) z, length-bytesOf 4 size),
+      ap (λ (l : List ℕ). 0 ∷ l) (take-at (bytesOf 4 size) z 4 (length-bytesOf 4 size)),
+    )
 
 -- behind the index, the four bytes that are left of the array
-pub head-indexed : (mark v size : ℕ) (r q z p : List ℕ) → mark ≡ 1 → length z ≡ 4 → r ≡ bytesOf 8 v → q ≡ bytesOf (length (take 4 (drop 8 (r ++ z)))) size
+pub head-indexed : (mark v size : ℕ) (r q z p : List ℕ) → mark ≡ 1 → length z ≡ 4 → r ≡ bytesOf 8 v
+    → q ≡ bytesOf (length (take 4 (drop 8 (r ++ z)))) size
     → (13 ≤ suc (length (take 8 (r ++ z) ++ (q ++ p)))) × (take 13 (1 ∷ (take 8 (r ++ z) ++ (q ++ p))) ≡ headBytes (indexOf mark v) size)
 head-indexed mark v size r q z p k n e f =
     let i = length-bytesOf 8 v in
@@ -80,53 +83,63 @@ module _ (es : List Element) (i : ℕ) (h : i < length es) where
 -- ---- bytes behind those that are written
 
 -- a copy behind w
-pub put : (w y lent : List ℕ) (used : ℕ) (out out′ : List ℕ) → used ≡ length w → out ≡ over w lent
-    → out′ ≡ take used out ++ (y ++ drop (used + length y) out) → out′ ≡ over (w ++ y) lent
-put w y lent used out out′ U E C = C ∙ rw (E, U) (over-append w y lent)
+pub put : (w y was : List ℕ) (used : ℕ) (out out′ : List ℕ) → used ≡ length w → out ≡ over w was
+    → out′ ≡ take used out ++ (y ++ drop (used + length y) out) → out′ ≡ over (w ++ y) was
+put w y was used out out′ U E C = C ∙ rw (E, U) (over-append w y was)
 
 -- what stands over a front of itself
-over-over : (w y lent : List ℕ) → over (w ++ y) (over w lent) ≡ over (w ++ y) lent
-over-over w y lent =
+over-over : (w y was : List ℕ) → over (w ++ y) (over w was) ≡ over (w ++ y) was
+over-over w y was =
     ap (λ (l : List ℕ). (w ++ y) ++ l)
-    (rw (length-append w y) (drop-append-add w (drop (length w) lent) (length y) ∙ drop-drop (length y) (length w) lent))
+    (rw (length-append w y) (drop-append-add w (drop (length w) was) (length y) ∙ drop-drop (length y) (length w) was))
 
 -- ---- one element of an accepted list, as the code reads it
 
-module _ (d n m x : List ℕ) (A : listCheck d n m x ≡ 0) (i : ℕ) (h : i < length n) where
+module _ (lent : Lent) (A : listCheck lent ≡ 0) (i : ℕ) (h : i < length (lent .ends)) where
+  open Lent lent using (bytes as d, ends as n, marks as m, indexes as x)
+
   abbrev all : List Element
-  all = elements d n m x
+  all = elements lent
 
   in-all : i < length all
-  in-all = omega (arith, length-elements d n m x A)
+  in-all = omega (arith, length-elements lent A)
 
   module _ (own : List ℕ) (O : own ≡ dataAt d n i) where
     own-there : elementAt all i .bytes ≡ own
-    own-there = data-there d n m x A i h ∙ sym O
+    own-there = data-there lent A i h ∙ sym O
 
     pub own-small : length own ≤ 4096
-    own-small = rw O (data-short d n m x A i h)
+    own-small = rw O (data-short lent A i h)
 
     module _ (mark : ℕ) (K : mark ≡ markOf (indexAt m x i)) where
       pub size-there : length (elementBytes (elementAt all i)) ≡ 5 + 8 * mark + length own
-      size-there = length-element (elementAt all i) ∙ rw (index-there d n m x A i h, own-there, K)
+      size-there = length-element (elementAt all i) ∙ rw (index-there lent A i h, own-there, K)
 
       pub size-more : (size : ℕ) → size ≡ length (elementsBytes (take i all))
           → size + (5 + 8 * mark + length own) ≡ length (elementsBytes (take (i + 1) all))
       size-more size S =
-          omega (arith, ap length (bytes-more all i in-all), length-append (elementsBytes (take i all)) (elementBytes (elementAt all i)), size-there)
+          omega (
+            arith,
+            ap length (bytes-more all i in-all),
+            length-append (elementsBytes (take i all)) (elementBytes (elementAt all i)),
+            size-there,
+          )
 
-      bytes-there : (number : ℕ) → number ≡ numberOf (indexAt m x i) → elementBytes (elementAt all i) ≡ headBytes (indexOf mark number) (length own) ++ own
+      bytes-there : (number : ℕ) → number ≡ numberOf (indexAt m x i)
+          → elementBytes (elementAt all i) ≡ headBytes (indexOf mark number) (length own) ++ own
       unfolding elementBytes
-      bytes-there number N = rw (index-there d n m x A i h, own-there, K, N, index-again (indexAt m x i))
+      bytes-there number N = rw (index-there lent A i h, own-there, K, N, index-again (indexAt m x i))
 
       -- head and data behind the elements before, which stand behind w
-      module _ (number : ℕ) (N : number ≡ numberOf (indexAt m x i)) (head : List ℕ) (H : head ≡ headBytes (indexOf mark number) (length own))
+      module _ (number : ℕ) (N : number ≡ numberOf (indexAt m x i)) (head : List ℕ)
+          (H : head ≡ headBytes (indexOf mark number) (length own))
           (len : ℕ) (E : length head ≡ len) (w : List ℕ) (used : ℕ) (U : used ≡ length (w ++ elementsBytes (take i all))) where
         abbrev before : List ℕ
         before = w ++ elementsBytes (take i all)
 
         behind : (before ++ head) ++ own ≡ w ++ elementsBytes (take (i + 1) all)
-        behind = rw (append-assoc before head own, H, ← bytes-there number N, bytes-more all i in-all, append-assoc w (elementsBytes (take i all)))
+        behind = rw
+            (append-assoc before head own, H, ← bytes-there number N, bytes-more all i in-all, append-assoc w (elementsBytes (take i all)))
 
         with-head : used + len ≡ length (before ++ head)
         with-head = omega (arith, length-append before head)
@@ -145,12 +158,13 @@ module _ (d n m x : List ℕ) (A : listCheck d n m x ≡ 0) (i : ℕ) (h : i < l
               bytes-within all i in-all,
             )
 
-        pub element-put : (lent out out₁ out₂ : List ℕ) → out ≡ over before lent
+        pub element-put : (was out out₁ out₂ : List ℕ) → out ≡ over before was
             → out₁ ≡ take used out ++ (head ++ drop (used + length head) out)
             → out₂ ≡ take (used + len) out₁ ++ (own ++ drop (used + len + length own) out₁)
-            → out₂ ≡ over (w ++ elementsBytes (take (i + 1) all)) lent
-        element-put lent out out₁ out₂ B C₁ C₂ =
-            put (before ++ head) own lent (used + len) out₁ out₂ with-head (put before head lent used out out₁ U B C₁) C₂ ∙ ap (λ (l : List ℕ). over l lent) behind
+            → out₂ ≡ over (w ++ elementsBytes (take (i + 1) all)) was
+        element-put was out out₁ out₂ B C₁ C₂ =
+            put (before ++ head) own was (used + len) out₁ out₂ with-head (put before head was used out out₁ U B C₁) C₂
+            ∙ ap (λ (l : List ℕ). over l was) behind
 
 -- ---- what stands before the elements, in an array
 
@@ -202,7 +216,14 @@ headOf R S n = bytesOf 8 R ++ (bytesOf 8 S ++ bytesOf 4 n)
 
 pub length-headOf : (R S n : ℕ) → length (headOf R S n) ≡ 20
 length-headOf R S n =
-    omega (arith, length-append (bytesOf 8 R) (bytesOf 8 S ++ bytesOf 4 n), length-append (bytesOf 8 S) (bytesOf 4 n), length-bytesOf 8 R, length-bytesOf 8 S, length-bytesOf 4 n)
+    omega (
+      arith,
+      length-append (bytesOf 8 R) (bytesOf 8 S ++ bytesOf 4 n),
+      length-append (bytesOf 8 S) (bytesOf 4 n),
+      length-bytesOf 8 R,
+      length-bytesOf 8 S,
+      length-bytesOf 4 n,
+    )
 
 module _ (k R S n : ℕ) (es : List Element) (K : k ≡ blockCount (24 + length (elementsBytes es))) (N : length es ≡ n) where
   content-is : content R S es ≡ (bytesOf 4 k ++ headOf R S n) ++ elementsBytes es
@@ -210,12 +231,12 @@ module _ (k R S n : ℕ) (es : List Element) (K : k ≡ blockCount (24 + length 
   content-is = rw (← K, N) (simp append-assoc)
 
   -- the number of blocks, the head behind it, then the elements
-  pub content-put : (lent stated head out out′ : List ℕ) → stated ≡ bytesOf 4 k → head ≡ headOf R S n
-      → out ≡ take 4 (stated ++ drop 4 lent) ++ (head ++ drop (4 + length head) (stated ++ drop 4 lent))
-      → out′ ≡ over (take 24 out ++ elementsBytes es) out → out′ ≡ over (content R S es) lent
-  content-put lent stated head out out′ B H C E =
+  pub content-put : (was stated head out out′ : List ℕ) → stated ≡ bytesOf 4 k → head ≡ headOf R S n
+      → out ≡ take 4 (stated ++ drop 4 was) ++ (head ++ drop (4 + length head) (stated ++ drop 4 was))
+      → out′ ≡ over (take 24 out ++ elementsBytes es) out → out′ ≡ over (content R S es) was
+  content-put was stated head out out′ B H C E =
       let four : length stated ≡ 4 = ap length B ∙ length-bytesOf 4 k in
-      let first : stated ++ drop 4 lent ≡ over stated lent = rw four in
-      let both-put : out ≡ over (stated ++ head) lent = put stated head lent 4 (stated ++ drop 4 lent) out (sym four) first C in
+      let first : stated ++ drop 4 was ≡ over stated was = rw four in
+      let both-put : out ≡ over (stated ++ head) was = put stated head was 4 (stated ++ drop 4 was) out (sym four) first C in
       let l : length (stated ++ head) ≡ 24 = omega (arith, length-append stated head, four, ap length H, length-headOf R S n) in
-      E ∙ rw (both-put, take-over 24 (stated ++ head) lent l, over-over (stated ++ head) (elementsBytes es) lent, B, H, ← content-is)
+      E ∙ rw (both-put, take-over 24 (stated ++ head) was l, over-over (stated ++ head) (elementsBytes es) was, B, H, ← content-is)

@@ -16,20 +16,27 @@ use Rattle.centralized_telescope.specs.laws.ElementsLaws.{accepted, leng
 use Rattle.centralized_telescope.specs.laws.ProofListLaws.{length-ends, accepted-again, elements-again}
 use Rattle.centralized_telescope.specs.laws.BytesLaws.{Bytes, each-bytes, front-number}
 use Rattle.centralized_telescope.specs.laws.BlocksLaws.{length-blocks, undamaged, blocks-undamaged}
-use Rattle.centralized_telescope.specs.laws.TicketsReadLaws.{none-over, none-long-short, number-small, ticket-reads, is-ticket, ticket-said, ticket-is, ticket-length, stated-first, ticket-stated, ticket-empty, ticket-miscounted}
+use Rattle.centralized_telescope.specs.laws.TicketsReadLaws.{none-over, none-long-short, number-small, ticket-reads, is-ticket}
+use Rattle.centralized_telescope.specs.laws.TicketsReadLaws.{ticket-said, ticket-is, ticket-length, stated-first, ticket-stated}
+use Rattle.centralized_telescope.specs.laws.TicketsReadLaws.{ticket-empty, ticket-miscounted}
 use Rattle.centralized_telescope.specs.declared.params.Params.{Params}
 use Rattle.centralized_telescope.specs.Lists.{Each, firstNumber}
-use Rattle.centralized_telescope.specs.Elements.{Element, markOf, numberOf, elementsFrom, elements, dataLong, listCheck}
+use Rattle.centralized_telescope.specs.Elements.{Element, markOf, numberOf, elementsFrom, elements, dataLong, listCheck, Lent, lentOf}
 use Rattle.centralized_telescope.specs.Verifier.{verdict}
 use Rattle.centralized_telescope.specs.ProofList.{joined, endsFrom, marksOf, indexesOf, buffersShort}
 use Rattle.centralized_telescope.specs.Blocks.{blockCount, blocks, bodiesOf, damaged}
-use Rattle.centralized_telescope.specs.Tickets.{content, ticket, ElementFits, ProofFits, IsTicket, blocksIn, retryIn, searchIn, proofIn, isTicket, TicketWritten, ticketWriteRefusal, ticketWritten, TicketRead, readOut, ticketReadRefusal, ticketRead}
-use Rattle.centralized_telescope.specs.TicketClaims.{blocksOf, ofRead, HasRoom, carried, CanCarry, ReadBack, readsBack, WrittenBack, writtenAgain, writesBack, judgedAgain, judgedAlike, TicketOrNot, OneProof, ticketsExactly, blocksCounted}
+use Rattle.centralized_telescope.specs.Tickets.{content, ticket, ElementFits, ProofFits, IsTicket, blocksIn, retryIn, searchIn}
+use Rattle.centralized_telescope.specs.Tickets.{proofIn, isTicket, TicketWritten, ticketWriteRefusal, ticketWritten, TicketRead}
+use Rattle.centralized_telescope.specs.Tickets.{readOut, ticketReadRefusal, ticketRead}
+use Rattle.centralized_telescope.specs.TicketClaims.{blocksOf, readList, HasRoom, carried, CanCarry, ReadBack, readsBack, WrittenBack}
+use Rattle.centralized_telescope.specs.TicketClaims.{writtenAgain, writesBack, judgedAgain, judgedAlike, TicketOrNot, OneProof}
+use Rattle.centralized_telescope.specs.TicketClaims.{ticketsExactly, blocksCounted}
 use Rattle.centralized_telescope.proofs.TicketAnswers.{no-ticket}
 
 -- ---- the elements of an accepted list whose indexes are of 64 bits
 
-fit-from : (from : ℕ) (d n m x : List ℕ) → Each (λ (v : ℕ). v < 2 ^ 64) x → dataLong from n ≡ false → Each ElementFits (elementsFrom from d n m x)
+fit-from : (from : ℕ) (d n m x : List ℕ) → Each (λ (v : ℕ). v < 2 ^ 64) x → dataLong from n ≡ false
+    → Each ElementFits (elementsFrom from d n m x)
 unfolding Each dataLong elementsFrom
 fit-from from d [] m x X l = tt
 fit-from from d (k ∷ n) [] x X l = tt
@@ -42,33 +49,34 @@ fit-from from d (k ∷ n) (j ∷ m) (v ∷ x) X l =
 
 -- ---- what the writer wrote
 
-module _ (R S : ℕ) (d n m x out : List ℕ) where
+module _ (R S : ℕ) (lent : Lent) (out : List ℕ) where
   abbrev w : TicketWritten
-  w = ticketWritten R S d n m x out
+  w = ticketWritten R S lent out
 
   -- an accepted list, and room
-  is-written : (t : List ℕ) → t ≡ ticket R S (elements d n m x) → listCheck d n m x ≡ 0 → length t ≤ length out → WrittenBack t out w
+  is-written : (t : List ℕ) → t ≡ ticket R S (elements lent) → listCheck lent ≡ 0 → length t ≤ length out → WrittenBack t out w
   unfolding ticketWritten ticketWriteRefusal firstNumber ticket
   is-written t e A room =
-      let c : List ℕ = content R S (elements d n m x) in
+      let c : List ℕ = content R S (elements lent) in
       let l : length t ≡ 512 * blockCount (length c) = rw e (length-blocks c) in
-      let k : ticketWriteRefusal R S d n m x out ≡ 0 = rw (A, le-ltb (length out) (512 * blockCount (length c)) (omega arith)) in
-      rw (eq-eqb (ticketWriteRefusal R S d n m x out) 0 k) record { number = refl; count = omega arith; blocks = rw e }
+      let k : ticketWriteRefusal R S lent out ≡ 0 = rw (A, le-ltb (length out) (512 * blockCount (length c)) (omega arith)) in
+      rw (eq-eqb (ticketWriteRefusal R S lent out) 0 k) record { number = refl; count = omega arith; blocks = rw e }
 
-  blocks-written : listCheck d n m x ≡ 0 → length (ticket R S (elements d n m x)) ≤ length out → blocksOf w ≡ ticket R S (elements d n m x)
+  blocks-written : listCheck lent ≡ 0 → length (ticket R S (elements lent)) ≤ length out → blocksOf w ≡ ticket R S (elements lent)
   unfolding ticket
   blocks-written A room =
-      let t : List ℕ = ticket R S (elements d n m x) in
+      let t : List ℕ = ticket R S (elements lent) in
       let W = is-written t refl A room in
-      rw (W .count, W .blocks) (take-over (512 * (length t / 512)) t out (omega (arith, length-blocks (content R S (elements d n m x)))))
+      rw (W .count, W .blocks) (take-over (512 * (length t / 512)) t out (omega (arith, length-blocks (content R S (elements lent)))))
 
 -- ---- what the reader read
 
-module _ (R S : ℕ) (es : List Element) (d n m x : List ℕ) where
-  parts : {A : Type 0} (f : List ℕ → List ℕ → List ℕ → List ℕ → A)
-      → ofRead f (readOut R S es d n m x) ≡ f (joined es) (endsFrom 0 es) (marksOf es) (indexesOf es)
+module _ (R S : ℕ) (es : List Element) (buffers : Lent) where
+  open Lent buffers using (bytes as d, ends as n, marks as m, indexes as x)
+
+  parts : readList (readOut R S es buffers) ≡ lentOf (joined es) (endsFrom 0 es) (marksOf es) (indexesOf es)
   unfolding readOut
-  parts f =
+  parts =
       rw (
         take-over (length (joined es)) (joined es) d refl,
         take-over (length es) (endsFrom 0 es) n (length-ends 0 es),
@@ -77,13 +85,15 @@ module _ (R S : ℕ) (es : List Element) (d n m x : List ℕ) where
       )
 
   -- what was read, written out and judged
-  again : (out : List ℕ) → writtenAgain (readOut R S es d n m x) out ≡ ticketWritten R S (joined es) (endsFrom 0 es) (marksOf es) (indexesOf es) out
+  again : (out : List ℕ)
+      → writtenAgain (readOut R S es buffers) out ≡ ticketWritten R S (lentOf (joined es) (endsFrom 0 es) (marksOf es) (indexesOf es)) out
   unfolding readOut
-  again out = ap (λ (f : List ℕ → TicketWritten). f out) (parts (ticketWritten R S))
+  again out = ap (λ (lent : Lent). ticketWritten R S lent out) parts
 
-  verdict-on : (p : Params) → judgedAgain p (readOut R S es d n m x) ≡ verdict p R S (joined es) (endsFrom 0 es) (marksOf es) (indexesOf es)
+  verdict-on : (p : Params)
+      → judgedAgain p (readOut R S es buffers) ≡ verdict p R S (lentOf (joined es) (endsFrom 0 es) (marksOf es) (indexesOf es))
   unfolding readOut
-  verdict-on p = parts (verdict p R S)
+  verdict-on p = ap (verdict p R S) parts
 
 zero-index : (es : List Element) (y z : List ℕ) (i : ℕ) → i < length es → getD (marksOf es ++ y) i 0 ≡ 0 → getD (indexesOf es ++ z) i 0 ≡ 0
 zero-index [] y z i h e = absurd (omega arith)
@@ -98,9 +108,11 @@ zero-index (k ∷ es) y z (suc i) h e = zero-index es y z i (omega arith) e
 abbrev numberBy : Bool → Bool → Bool → ℕ
 numberBy p q s = cond p 40 (cond q (cond s 42 0) 41)
 
-module _ (t d n m x : List ℕ) where
+module _ (t : List ℕ) (buffers : Lent) where
+  open Lent buffers using (bytes as d, ends as n, marks as m, indexes as x)
+
   abbrev r : TicketRead
-  r = ticketRead t d n m x
+  r = ticketRead t buffers
 
   abbrev b : List ℕ
   b = bodiesOf t
@@ -120,7 +132,7 @@ module _ (t d n m x : List ℕ) where
   unfolding ticketRead ticketReadRefusal firstNumber
   no-room D I s = rw (D, I, s)
 
-  read-all : damaged t ≡ false → isTicket t ≡ true → short ≡ false → r ≡ readOut (retryIn b) (searchIn b) (proofIn b) d n m x
+  read-all : damaged t ≡ false → isTicket t ≡ true → short ≡ false → r ≡ readOut (retryIn b) (searchIn b) (proofIn b) buffers
   unfolding ticketRead ticketReadRefusal firstNumber
   read-all D I s = rw (D, I, s)
 
@@ -178,32 +190,36 @@ module _ (t d n m x : List ℕ) where
 
 -- ---- the claims
 
-module _ (R S : ℕ) (d n m x out d′ n′ m′ x′ : List ℕ) (C : CanCarry R S d n m x out d′ n′ m′ x′) where
+module _ (R S : ℕ) (lent : Lent) (out : List ℕ) (buffers : Lent) (C : CanCarry R S lent out buffers) where
+  open Lent buffers using (bytes as d′, marks as m′, indexes as x′)
+  open Lent lent using (bytes as d, ends as n, marks as m, indexes as x)
+
   abbrev es : List Element
-  es = elements d n m x
+  es = elements lent
 
   reads : ProofFits R S es
   reads = record {
     retry = C .retry;
     search = C .search;
-    few = omega (arith, length-elements d n m x (C .accepted), few-elements d n m x (C .accepted));
-    each = fit-from 0 d n m x (C .index-numbers) (accepted d n m x (C .accepted) .short);
+    few = omega (arith, length-elements lent (C .accepted), few-elements lent (C .accepted));
+    each = fit-from 0 d n m x (C .index-numbers) (accepted lent (C .accepted) .short);
   }
 
   ticket-whole : damaged (ticket R S es) ≡ false
   unfolding ticket
   ticket-whole = blocks-undamaged (content R S es)
 
-  all-read : carried R S d n m x out d′ n′ m′ x′ ≡ readOut R S es d′ n′ m′ x′
+  all-read : carried R S lent out buffers ≡ readOut R S es buffers
   all-read =
       let f = ticket-reads R S es reads in
-      rw (blocks-written R S d n m x out (C .accepted) (C .long))
-      (read-all (ticket R S es) d′ n′ m′ x′ ticket-whole (is-ticket R S es reads) (rw (f .proof) (C .room)) ∙ rw (f .retry, f .search, f .proof))
+      rw (blocks-written R S lent out (C .accepted) (C .long))
+      (read-all (ticket R S es) buffers ticket-whole (is-ticket R S es reads) (rw (f .proof) (C .room))
+      ∙ rw (f .retry, f .search, f .proof))
 
-  listed-again : listCheck (joined es) (endsFrom 0 es) (marksOf es) (indexesOf es) ≡ 0
+  listed-again : listCheck (lentOf (joined es) (endsFrom 0 es) (marksOf es) (indexesOf es)) ≡ 0
   listed-again = accepted-again es (reads .few) (none-long-short es (none-over es (reads .each)))
 
-  read-back : ReadBack R S es (carried R S d n m x out d′ n′ m′ x′)
+  read-back : ReadBack R S es (carried R S lent out buffers)
   unfolding readOut
   read-back =
       rw all-read
@@ -212,26 +228,26 @@ module _ (R S : ℕ) (d n m x out d′ n′ m′ x′ : List ℕ) (C : CanCarry 
         retry = refl;
         search = refl;
         count = refl;
-        same = parts R S es d′ n′ m′ x′ elements ∙ elements-again es;
-        accepted = parts R S es d′ n′ m′ x′ listCheck ∙ listed-again;
+        same = ap elements (parts R S es buffers) ∙ elements-again es;
+        accepted = ap listCheck (parts R S es buffers) ∙ listed-again;
         data-alone = take-over (length (joined es)) (joined es) d′ refl;
         index-zero = zero-index es (drop (length (marksOf es)) m′) (drop (length (indexesOf es)) x′);
       }
 
-  alike : (p : Params) → judgedAgain p (carried R S d n m x out d′ n′ m′ x′) ≡ verdict p R S d n m x
+  alike : (p : Params) → judgedAgain p (carried R S lent out buffers) ≡ verdict p R S lent
   unfolding verdict
-  alike p = ap (judgedAgain p) all-read ∙ verdict-on R S es d′ n′ m′ x′ p ∙ rw (listed-again, elements-again es, C .accepted)
+  alike p = ap (judgedAgain p) all-read ∙ verdict-on R S es buffers p ∙ rw (listed-again, elements-again es, C .accepted)
 
 pub reads-back : readsBack
-reads-back R S d n m x out d′ n′ m′ x′ C = (
-  is-written R S d n m x out (ticket R S (elements d n m x)) refl (C .accepted) (C .long) .number,
-  read-back R S d n m x out d′ n′ m′ x′ C,
+reads-back R S lent out buffers C = (
+  is-written R S lent out (ticket R S (elements lent)) refl (C .accepted) (C .long) .number,
+  read-back R S lent out buffers C,
 )
 
 pub judged-alike : judgedAlike
-judged-alike p R S d n m x out d′ n′ m′ x′ C = alike R S d n m x out d′ n′ m′ x′ C p
+judged-alike p R S lent out buffers C = alike R S lent out buffers C p
 
-module _ (t d n m x : List ℕ) where
+module _ (t : List ℕ) (buffers : Lent) where
   abbrev R′ : ℕ
   R′ = retryIn (bodiesOf t)
 
@@ -241,24 +257,25 @@ module _ (t d n m x : List ℕ) where
   abbrev es′ : List Element
   es′ = proofIn (bodiesOf t)
 
-  module _ (N : ticketRead t d n m x .number ≡ 0) where
-    read : ticketRead t d n m x ≡ readOut R′ S′ es′ d n m x
-    read = let a = accepts t d n m x N in read-all t d n m x (a .whole) (a .is) (a .room)
+  module _ (N : ticketRead t buffers .number ≡ 0) where
+    read : ticketRead t buffers ≡ readOut R′ S′ es′ buffers
+    read = let a = accepts t buffers N in read-all t buffers (a .whole) (a .is) (a .room)
 
-    write-back : (out : List ℕ) → length t ≤ length out → WrittenBack t out (writtenAgain (ticketRead t d n m x) out)
+    write-back : (out : List ℕ) → length t ≤ length out → WrittenBack t out (writtenAgain (ticketRead t buffers) out)
     write-back out l =
-        let s = ticket-said t (accepts t d n m x N .is) in
-        rw (read, again R′ S′ es′ d n m x out)
-        (is-written R′ S′ (joined es′) (endsFrom 0 es′) (marksOf es′) (indexesOf es′) out t (s .same ∙ ap (ticket R′ S′) (sym (elements-again es′)))
+        let s = ticket-said t (accepts t buffers N .is) in
+        rw (read, again R′ S′ es′ buffers out)
+        (is-written R′ S′ (lentOf (joined es′) (endsFrom 0 es′) (marksOf es′) (indexesOf es′)) out t
+        (s .same ∙ ap (ticket R′ S′) (sym (elements-again es′)))
         (accepted-again es′ (s .few) (none-long-short es′ (s .none-long))) l)
 
-    fits : Bytes t → ProofFits (ticketRead t d n m x .retry) (ticketRead t d n m x .search) (ofRead elements (ticketRead t d n m x))
+    fits : Bytes t → ProofFits (ticketRead t buffers .retry) (ticketRead t buffers .search) (elements (readList (ticketRead t buffers)))
     unfolding readOut
-    fits B = rw (read, parts R′ S′ es′ d n m x elements, elements-again es′) (ticket-is t B (accepts t d n m x N .is))
+    fits B = rw (read, ap elements (parts R′ S′ es′ buffers), elements-again es′) (ticket-is t B (accepts t buffers N .is))
 
-    same : t ≡ ticket (ticketRead t d n m x .retry) (ticketRead t d n m x .search) (ofRead elements (ticketRead t d n m x))
+    same : t ≡ ticket (ticketRead t buffers .retry) (ticketRead t buffers .search) (elements (readList (ticketRead t buffers)))
     unfolding readOut
-    same = rw (read, parts R′ S′ es′ d n m x elements, elements-again es′) (ticket-said t (accepts t d n m x N .is) .same)
+    same = rw (read, ap elements (parts R′ S′ es′ buffers), elements-again es′) (ticket-said t (accepts t buffers N .is) .same)
 
   said : IsTicket t → isTicket t ≡ true
   said k = rw (k .4) (is-ticket (k .0) (k .1) (k .2) (k .3))
@@ -276,22 +293,25 @@ module _ (t d n m x : List ℕ) where
   proof-found : (k : IsTicket t) → es′ ≡ k .2
   proof-found k = rw (k .4) (ticket-reads (k .0) (k .1) (k .2) (k .3) .proof)
 
-  read-with-room : (k : IsTicket t) → HasRoom (k .2) d n m x → ticketRead t d n m x .number ≡ 0
+  read-with-room : (k : IsTicket t) → HasRoom (k .2) buffers → ticketRead t buffers .number ≡ 0
   unfolding readOut
-  read-with-room k room = rw (read-all t d n m x (whole k) (said k) (rw (proof-found k) room))
+  read-with-room k room = rw (read-all t buffers (whole k) (said k) (rw (proof-found k) room))
 
-  too-short : Bytes t → ticketRead t d n m x .number ≡ 42 → (k : IsTicket t) × (HasRoom (k .2) d n m x → ⊥)
-  too-short B e = let f = forty-two t d n m x e in (is-a-ticket B (f .0), λ room. not-both (f .1) room)
+  too-short : Bytes t → ticketRead t buffers .number ≡ 42 → (k : IsTicket t) × (HasRoom (k .2) buffers → ⊥)
+  too-short B e = let f = forty-two t buffers e in (is-a-ticket B (f .0), λ room. not-both (f .1) room)
 
-  short-refused : (k : IsTicket t) → (HasRoom (k .2) d n m x → ⊥) → ticketRead t d n m x .number ≡ 42
-  short-refused k short = no-room t d n m x (whole k) (said k) (rw (proof-found k) (confirmed _ short))
+  short-refused : (k : IsTicket t) → (HasRoom (k .2) buffers → ⊥) → ticketRead t buffers .number ≡ 42
+  short-refused k short = no-room t buffers (whole k) (said k) (rw (proof-found k) (confirmed _ short))
 
-  ticket-or-not : Each (λ (b : ℕ). b < 256) t → TicketOrNot t d n m x
+  not-a-ticket : ticketRead t buffers .number ≡ 41 → (damaged t ≡ false) × (IsTicket t → ⊥)
+  not-a-ticket e = let f = forty-one t buffers e in (f .0, λ k. not-both (said k) (f .1))
+
+  ticket-or-not : Each (λ (b : ℕ). b < 256) t → TicketOrNot t buffers
   ticket-or-not E =
       let B = each-bytes t E in
       record {
-        damage = (forty t d n m x, damage-met t d n m x);
-        no-ticket = (λ e. let f = forty-one t d n m x e in (f .0, λ k. not-both (said k) (f .1)), λ f. refused t d n m x (f .0) (not-said B (f .1)));
+        damage = (forty t buffers, damage-met t buffers);
+        no-ticket = (not-a-ticket, λ f. refused t buffers (f .0) (not-said B (f .1)));
         undamaged = whole;
         short = (too-short B, λ f. short-refused (f .0) (f .1));
         reads = read-with-room;
@@ -300,7 +320,7 @@ module _ (t d n m x : List ℕ) where
       }
 
 pub writes-back : writesBack
-writes-back t d n m x out N l = write-back t d n m x N out l
+writes-back t buffers out N l = write-back t buffers N out l
 
 one-proof : OneProof
 one-proof R S es R′ S′ es′ f g q =
@@ -327,10 +347,16 @@ module _ (t : List ℕ) (k : IsTicket t) where
 
   counted : length t ≡ 512 * bigEndian 4 t
   counted =
-      omega (arith, undamaged t (whole t [] [] [] [] k) .size, stated-first t first-block, ticket-stated t (said t [] [] [] [] k))
+      omega (
+        arith,
+        undamaged t (whole t (lentOf [] [] [] []) k) .size,
+        stated-first t first-block,
+        ticket-stated t (said t (lentOf [] [] [] []) k),
+      )
 
   stated-by-front : (n : ℕ) → 512 ≤ n → blocksIn (bodiesOf (take n t)) ≡ bigEndian 4 t
-  stated-by-front n h = stated-first (take n t) (omega (arith, length-take n t, first-block)) ∙ front-number 4 n t (omega arith) (omega (arith, first-block))
+  stated-by-front n h =
+      stated-first (take n t) (omega (arith, length-take n t, first-block)) ∙ front-number 4 n t (omega arith) (omega (arith, first-block))
 
 pub blocks-counted : blocksCounted
-blocks-counted = (counted, λ t n k. stated-by-front t k n, λ t d n m x D f. sym (no-ticket t d n m x D (miscounted t D f)))
+blocks-counted = (counted, λ t n k. stated-by-front t k n, λ t buffers D f. sym (no-ticket t buffers D (miscounted t D f)))

@@ -11,7 +11,7 @@ use Rattle.centralized_telescope.specs.declared.errors.Refusal.{Refusal}
 use Rattle.centralized_telescope.specs.declared.params.Params.{Params}
 use Rattle.centralized_telescope.specs.Refusals.{refusalNumber}
 use Rattle.centralized_telescope.specs.laws.RefusalsLaws.{refusal-number}
-use Rattle.centralized_telescope.specs.Elements.{Element, elements, listCheck}
+use Rattle.centralized_telescope.specs.Elements.{Element, elements, listCheck, Lent}
 use Rattle.centralized_telescope.specs.laws.ListsLaws.{number-met, second-met, two-passed, number-last}
 use Rattle.centralized_telescope.specs.Params.{checked}
 use Rattle.centralized_telescope.specs.Verifier.{lastHash, yesOn, countersOut, judged, verdict}
@@ -57,19 +57,19 @@ module _ (p : Params) (R S : ℕ) (es : List Element) (n v : ℕ) (L : length es
 
 -- ---- the whole
 
-module _ (p : Params) (R S : ℕ) (d n m x : List ℕ) where
-  pub settings-refused : (k : Refusal) → checked p ≡ refusalNumber k → refusalNumber k ≡ verdict p R S d n m x
+module _ (p : Params) (R S : ℕ) (lent : Lent) where
+  pub settings-refused : (k : Refusal) → checked p ≡ refusalNumber k → refusalNumber k ≡ verdict p R S lent
   unfolding verdict
   settings-refused k e = sym (number-met (checked p) _ (refusalNumber k) e (refusal-number k))
 
   module _ (P : checked p ≡ 0) where
-    pub list-met : (listCheck d n m x ≡ 0 → ⊥) → listCheck d n m x ≡ verdict p R S d n m x
+    pub list-met : (listCheck lent ≡ 0 → ⊥) → listCheck lent ≡ verdict p R S lent
     unfolding verdict
-    list-met z = sym (second-met (checked p) (listCheck d n m x) _ (listCheck d n m x) P refl z)
+    list-met z = sym (second-met (checked p) (listCheck lent) _ (listCheck lent) P refl z)
 
-    pub list-refused : (k : Refusal) → listCheck d n m x ≡ refusalNumber k → refusalNumber k ≡ verdict p R S d n m x
+    pub list-refused : (k : Refusal) → listCheck lent ≡ refusalNumber k → refusalNumber k ≡ verdict p R S lent
     list-refused k e = sym e ∙ list-met (λ z. refusal-number k (sym e ∙ z))
 
-    pub left-to-judge : listCheck d n m x ≡ 0 → judged p R S (elements d n m x) ≡ verdict p R S d n m x
+    pub left-to-judge : listCheck lent ≡ 0 → judged p R S (elements lent) ≡ verdict p R S lent
     unfolding verdict
-    left-to-judge l = sym (two-passed (checked p) (listCheck d n m x) _ P l ∙ number-last (judged p R S (elements d n m x)))
+    left-to-judge l = sym (two-passed (checked p) (listCheck lent) _ P l ∙ number-last (judged p R S (elements lent)))

@@ -12,7 +12,7 @@ use lib.ListN.{length}
 use Rattle.centralized_telescope.specs.declared.params.Params.{Params}
 use Rattle.centralized_telescope.specs.laws.TestLaws.{neither}
 use Rattle.centralized_telescope.specs.Params.{checked}
-use Rattle.centralized_telescope.specs.Elements.{Element, elements, listCheck}
+use Rattle.centralized_telescope.specs.Elements.{Element, elements, listCheck, Lent}
 use Rattle.centralized_telescope.specs.laws.ElementsLaws.{check-range}
 use Rattle.centralized_telescope.specs.Chains.{ElementsPass}
 use Rattle.centralized_telescope.specs.Verifier.{lastHash, yesOn, countersOut, judged, verdict}
@@ -20,12 +20,12 @@ use Rattle.centralized_telescope.specs.laws.VerifierLaws.{yes-exists, ex
 use Rattle.centralized_telescope.specs.Demand3.{Accepted, OfVerifier}
 use Rattle.centralized_telescope.proofs.VerdictAnswers.{list-met, left-to-judge}
 
-module _ (p : Params) (R S : ℕ) (bytes ends marks indexes : List ℕ) where
+module _ (p : Params) (R S : ℕ) (lent : Lent) where
   abbrev es : List Element
-  es = elements bytes ends marks indexes
+  es = elements lent
 
   abbrev list : ℕ
-  list = listCheck bytes ends marks indexes
+  list = listCheck lent
 
   abbrev Long : Type 0
   Long = length es ≡ p .«proof_size»
@@ -133,14 +133,14 @@ module _ (p : Params) (R S : ℕ) (bytes ends marks indexes : List ℕ) where
 
   module _ (s : checked p ≡ 0) where
     abbrev v : ℕ
-    v = verdict p R S bytes ends marks indexes
+    v = verdict p R S lent
 
     met : Met v
     met = elim (eq-or-lt-of-le {n = 0} {m = list} (omega arith)) [
-      | inl e ↦ let a : list ≡ 0 = sym e in accepted a (rw (← left-to-judge p R S bytes ends marks indexes s a) judged-so)
+      | inl e ↦ let a : list ≡ 0 = sym e in accepted a (rw (← left-to-judge p R S lent s a) judged-so)
       | inr l ↦
-          by-list (sym (list-met p R S bytes ends marks indexes s (λ z. omega arith))) l
-          (check-range bytes ends marks indexes)
+          by-list (sym (list-met p R S lent s (λ z. omega arith))) l
+          (check-range lent)
     ]
 
     -- ---- the fields
@@ -151,19 +151,19 @@ module _ (p : Params) (R S : ℕ) (bytes ends marks indexes : List ℕ) where
     too-large : (v ≡ 5) ↔ (list ≡ 5)
     too-large = of-list v 5 (omega arith) (omega arith) met
 
-    length-differs : (v ≡ 20) ↔ (Accepted bytes ends marks indexes × (Long → ⊥))
+    length-differs : (v ≡ 20) ↔ (Accepted lent × (Long → ⊥))
     length-differs = at-20 v met
 
-    counters-out : (v ≡ 21) ↔ (Accepted bytes ends marks indexes × Long × Out)
+    counters-out : (v ≡ 21) ↔ (Accepted lent × Long × Out)
     counters-out = at-21 v met
 
-    fails : (v ≡ 22) ↔ (Accepted bytes ends marks indexes × Long × (S < p .«search_width») × (R < p .«max_retries») × (Pass → ⊥))
+    fails : (v ≡ 22) ↔ (Accepted lent × Long × (S < p .«search_width») × (R < p .«max_retries») × (Pass → ⊥))
     fails = at-22 v met
 
-    accepts : (v ≡ 0) ↔ (Accepted bytes ends marks indexes × (S < p .«search_width») × (R < p .«max_retries») × Pass)
+    accepts : (v ≡ 0) ↔ (Accepted lent × (S < p .«search_width») × (R < p .«max_retries») × Pass)
     accepts = at-0 v met
 
-    pub verdict-so : OfVerifier p R S bytes ends marks indexes v
+    pub verdict-so : OfVerifier p R S lent v
     verdict-so = record {
       malformed = malformed;
       too-large = too-large;

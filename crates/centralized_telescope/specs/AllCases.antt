@@ -7,6 +7,7 @@ use lib.IntN.{ℤ, pos, negsuc}
 use lib.Ieee.{Float, fin}
 use lib.ListN.{length, replicate}
 use Rattle.sampling.specs.Sample.{uniform, thresholdOrRefusal, valueOf, xOf, bernoulli}
+use Rattle.centralized_telescope.specs.Elements.{Lent}
 use Rattle.centralized_telescope.specs.declared.params.Params.{Params}
 use Rattle.centralized_telescope.specs.Params.{completenessOut, smallCase}
 use Rattle.centralized_telescope.specs.Lists.{Each}
@@ -57,8 +58,8 @@ settingsOf size width retries bound =
 -- a run under such settings, whatever the elements, being so many, and the workspace
 abbrev pub Ends : Params → ℕ → ℕ → ℕ → Type 0
 Ends p n number count =
-    (bytes ends marks indexes places table : List ℕ) → Served p bytes ends marks indexes places table → length ends ≡ n
-    → (proved p bytes ends marks indexes places table .number ≡ number) × (proved p bytes ends marks indexes places table .count ≡ count)
+    (lent : Lent) (places table : List ℕ) → Served p lent places table → length (lent .ends) ≡ n
+    → (proved p lent places table .number ≡ number) × (proved p lent places table .count ≡ count)
 
 unfoldable pub Holds : Case → Type 0
 Holds (draws h n number value) = uniform h n ≡ (number, value)

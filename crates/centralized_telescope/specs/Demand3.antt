@@ -5,9 +5,10 @@ use mathlib.Core.Logic.{_⊎_, _↔_}
 use mathlib.Core.List.{List, [], _∷_, _++_, map, List·Memᴰ}
 use Prim.Native.Nat.{ℕ, zero, suc, _+_, _*_, _^_, _≤_, _<_, min}
 use lib.ListN.{length, take, drop, replicate}
+use Rattle.sampling.specs.declared.sample.U128.{U128}
 use Rattle.centralized_telescope.specs.declared.params.Params.{Params}
 use Rattle.centralized_telescope.specs.Params.{checked}
-use Rattle.centralized_telescope.specs.Elements.{Element, elements, elementAt, listCheck}
+use Rattle.centralized_telescope.specs.Elements.{Element, elements, elementAt, listCheck, Lent, lentOf}
 use Rattle.centralized_telescope.specs.Lists.{Ascending}
 use Rattle.centralized_telescope.specs.Chains.{Try, tryOf, Chain, elementsOf, Exists, Passes, Before, ElementsPass}
 use Rattle.centralized_telescope.specs.Prover.{Proved, proved}
@@ -48,15 +49,15 @@ sumUpTo zero f = 0
 sumUpTo (suc m) f = sumUpTo m f + f (suc m)
 
 -- a list is accepted where the table has neither 4 nor 5 for it
-abbrev pub Accepted : List ℕ → List ℕ → List ℕ → List ℕ → Type 0
-Accepted bytes ends marks indexes = listCheck bytes ends marks indexes ≡ 0
+abbrev pub Accepted : Lent → Type 0
+Accepted lent = listCheck lent ≡ 0
 
 -- ---- the premise: lawful settings, an accepted list with set_size elements or more, and workspace long enough, with anything in it
 
-pub record Served (p : Params) (bytes ends marks indexes places table : List ℕ) : Type 0 where
+pub record Served (p : Params) (lent : Lent) (places table : List ℕ) : Type 0 where
   pub settings : checked p ≡ 0
-  pub list : Accepted bytes ends marks indexes
-  pub at-least : p .«set_size» ≤ length ends
+  pub list : Accepted lent
+  pub at-least : p .«set_size» ≤ length (lent .ends)
   pub places-enough : p .«proof_size» ≤ length places
   pub table-enough : 3 * p .«set_size» + 1 ≤ length table
 
@@ -97,25 +98,25 @@ pub record OfProver (p : Params) (es : List Element) (places : List ℕ) (r : Pr
 -- ---- the verifier's sentences
 
 -- on any proof, v being the verdict on the counters R and S and a list: each number of the table exactly where its line is the first met
-pub record OfVerifier (p : Params) (R S : ℕ) (bytes ends marks indexes : List ℕ) (v : ℕ) : Type 0 where
-  pub malformed : (v ≡ 4) ↔ (listCheck bytes ends marks indexes ≡ 4)
-  pub too-large : (v ≡ 5) ↔ (listCheck bytes ends marks indexes ≡ 5)
-  pub length-differs : (v ≡ 20) ↔ (Accepted bytes ends marks indexes × (length (elements bytes ends marks indexes) ≡ p .«proof_size» → ⊥))
+pub record OfVerifier (p : Params) (R S : ℕ) (lent : Lent) (v : ℕ) : Type 0 where
+  pub malformed : (v ≡ 4) ↔ (listCheck lent ≡ 4)
+  pub too-large : (v ≡ 5) ↔ (listCheck lent ≡ 5)
+  pub length-differs : (v ≡ 20) ↔ (Accepted lent × (length (elements lent) ≡ p .«proof_size» → ⊥))
   pub counters-out : (v ≡ 21)
-      ↔ (Accepted bytes ends marks indexes
-      × (length (elements bytes ends marks indexes) ≡ p .«proof_size»)
+      ↔ (Accepted lent
+      × (length (elements lent) ≡ p .«proof_size»)
       × ((p .«search_width» ≤ S) ⊎ (p .«max_retries» ≤ R)))
   pub fails : (v ≡ 22)
-      ↔ (Accepted bytes ends marks indexes
-      × (length (elements bytes ends marks indexes) ≡ p .«proof_size»)
+      ↔ (Accepted lent
+      × (length (elements lent) ≡ p .«proof_size»)
       × (S < p .«search_width»)
       × (R < p .«max_retries»)
-      × (ElementsPass p R S (elements bytes ends marks indexes) → ⊥))
+      × (ElementsPass p R S (elements lent) → ⊥))
   pub accepts : (v ≡ 0)
-      ↔ (Accepted bytes ends marks indexes
+      ↔ (Accepted lent
       × (S < p .«search_width»)
       × (R < p .«max_retries»)
-      × ElementsPass p R S (elements bytes ends marks indexes))
+      × ElementsPass p R S (elements lent))
 
 -- on the prover's proof r, v being the verdict under the settings of the search
 pub record OnTheProof (p : Params) (r : Proved) (v : ℕ) : Type 0 where
@@ -130,43 +131,39 @@ proofElements p es r = map (elementAt es) (take (p .«proof_size») (r .places))
 
 -- some elements as a list that is accepted
 pub record Listed (es : List Element) : Type 0 where
-  pub bytes : List ℕ
-  pub ends : List ℕ
-  pub marks : List ℕ
-  pub indexes : List ℕ
-  pub accepted : Accepted bytes ends marks indexes
-  pub same : elements bytes ends marks indexes ≡ es
+  pub lent : Lent
+  pub accepted : Accepted lent
+  pub same : elements lent ≡ es
 
 -- ---- the claim
 
-pub record Demand3 (p : Params) (bytes ends marks indexes places table : List ℕ) : Type 0 where
-  pub of-prover : OfProver p (elements bytes ends marks indexes) places (proved p bytes ends marks indexes places table)
+pub record Demand3 (p : Params) (lent : Lent) (places table : List ℕ) : Type 0 where
+  pub of-prover : OfProver p (elements lent) places (proved p lent places table)
   -- of any proof: any counters and any list
-  pub of-verifier : (R S : ℕ) (bytes′ ends′ marks′ indexes′ : List ℕ)
-      → OfVerifier p R S bytes′ ends′ marks′ indexes′ (verdict p R S bytes′ ends′ marks′ indexes′)
+  pub of-verifier : (R S : ℕ) (lent′ : Lent) → OfVerifier p R S lent′ (verdict p R S lent′)
   -- of the prover's proof: the elements at its places are the chain's, and there is an accepted list of them
-  pub of-chain : (n : proved p bytes ends marks indexes places table .number ≡ 0)
-      → proofElements p (elements bytes ends marks indexes) (proved p bytes ends marks indexes places table)
-      ≡ elementsOf (tryOf p (elements bytes ends marks indexes) (of-prover .made)) (of-prover .proof-is n .0)
-  pub listed : proved p bytes ends marks indexes places table .number ≡ 0
-      → Listed (proofElements p (elements bytes ends marks indexes) (proved p bytes ends marks indexes places table))
+  pub of-chain : (n : proved p lent places table .number ≡ 0)
+      → proofElements p (elements lent) (proved p lent places table)
+      ≡ elementsOf (tryOf p (elements lent) (of-prover .made)) (of-prover .proof-is n .0)
+  pub listed : proved p lent places table .number ≡ 0
+      → Listed (proofElements p (elements lent) (proved p lent places table))
   -- and on its counters and any such list the verdict is so
-  pub on-the-proof : proved p bytes ends marks indexes places table .number ≡ 0
-      → (l : Listed (proofElements p (elements bytes ends marks indexes) (proved p bytes ends marks indexes places table)))
-      → OnTheProof p (proved p bytes ends marks indexes places table)
-      (verdict p (proved p bytes ends marks indexes places table .retry) (proved p bytes ends marks indexes places table .search) (l .bytes) (l .ends) (l .marks) (l .indexes))
+  pub on-the-proof : proved p lent places table .number ≡ 0
+      → (l : Listed (proofElements p (elements lent) (proved p lent places table)))
+      → OnTheProof p (proved p lent places table)
+      (verdict p (proved p lent places table .retry) (proved p lent places table .search) (l .lent))
 
 abbrev pub demand3 : Type 0
 demand3 =
-    (p : Params) (bytes ends marks indexes places table : List ℕ) → Served p bytes ends marks indexes places table
-    → Demand3 p bytes ends marks indexes places table
+    (p : Params) (lent : Lent) (places table : List ℕ) → Served p lent places table → Demand3 p lent places table
 
 -- ---- that there are such settings, lists and workspace: two elements, "a" without an index and "bc" with the index 7
 
 abbrev pub exampleSettings : Params
 exampleSettings =
-    record { «set_size» = 2; «proof_size» = 3; «max_retries» = 4; «search_width» = 5; «dfs_bound» = 600; x = record { hi = 2 ^ 63; lo = 0 } }
+    let half : U128 = record { hi = 2 ^ 63; lo = 0 } in
+    record { «set_size» = 2; «proof_size» = 3; «max_retries» = 4; «search_width» = 5; «dfs_bound» = 600; x = half }
 
 abbrev pub servedExample : Type 0
 servedExample =
-    Served exampleSettings (97 ∷ 98 ∷ 99 ∷ []) (1 ∷ 3 ∷ []) (0 ∷ 1 ∷ []) (0 ∷ 7 ∷ []) (replicate 3 0) (replicate 7 0)
+    Served exampleSettings (lentOf (97 ∷ 98 ∷ 99 ∷ []) (1 ∷ 3 ∷ []) (0 ∷ 1 ∷ []) (0 ∷ 7 ∷ [])) (replicate 3 0) (replicate 7 0)

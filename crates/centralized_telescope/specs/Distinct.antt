@@ -8,7 +8,7 @@ use lib.Dec.{eqb}
 use lib.ListN.{length}
 use Rattle.centralized_telescope.specs.Lists.{someOf, sameBytes}
 use Rattle.centralized_telescope.specs.Refusals.{refusalNumber}
-use Rattle.centralized_telescope.specs.Elements.{Element, markOf, numberOf, elements, elementAt, listCheck}
+use Rattle.centralized_telescope.specs.Elements.{Element, markOf, numberOf, elements, elementAt, listCheck, Lent}
 use Rattle.centralized_telescope.specs.declared.misc.Distinctness.{Distinctness}
 use Rattle.centralized_telescope.specs.declared.misc.Distinctness.the-variants as is
 
@@ -34,9 +34,9 @@ distinctExactly = (es : List Element) → (noneEqual es ≡ true) ↔ Distinct e
 
 -- ---- the answer: 0 with the yes or no, or the list's number, 4 or 5, with no
 
-unfoldable pub distinct : List ℕ → List ℕ → List ℕ → List ℕ → ℕ × Bool
-distinct bytes ends marks indexes =
-    cond (eqb (listCheck bytes ends marks indexes) 0) (0, noneEqual (elements bytes ends marks indexes)) (listCheck bytes ends marks indexes, false)
+unfoldable pub distinct : Lent → ℕ × Bool
+distinct lent =
+    cond (eqb (listCheck lent) 0) (0, noneEqual (elements lent)) (listCheck lent, false)
 
 -- 01's number and the yes or no for each answer
 abbrev pub distinctNumber : Distinctness → ℕ × Bool

@@ -5,6 +5,7 @@ use Prim.Native.Nat.{ℕ, zero, suc, _/_, _%_}
 use lib.Dec.{eqb}
 use lib.ListN.{length, drop}
 use Rattle.sampling.specs.BigEndian.{bigEndian}
+use Rattle.centralized_telescope.specs.Elements.{Lent, lentOf}
 use Rattle.centralized_telescope.specs.declared.params.Params.{Params}
 use Rattle.centralized_telescope.specs.Lists.{firstNumber}
 use Rattle.centralized_telescope.specs.Params.{checked}
@@ -33,9 +34,13 @@ numbersOf k bytes = numbersIn (length bytes / k) k bytes
 abbrev pub isWholeCount : ℕ → List ℕ → Bool
 isWholeCount k bytes = eqb (length bytes % k) 0
 
--- the verdict on those numbers; bytes that are left over make it refusal 4, which the settings' refusals precede
-unfoldable pub exportedVerdict : Params → ℕ → ℕ → List ℕ → List ℕ → List ℕ → List ℕ → ℕ
-exportedVerdict p R S bytes ends marks indexes =
-    cond (isWholeCount 4 ends && isWholeCount 8 indexes)
-    (verdict p R S bytes (numbersOf 4 ends) marks (numbersOf 8 indexes))
+-- the list that is lent with its ends and indexes in bytes
+abbrev pub numbered : Lent → Lent
+numbered lent = lentOf (lent .bytes) (numbersOf 4 (lent .ends)) (lent .marks) (numbersOf 8 (lent .indexes))
+
+-- the verdict on it; bytes that are left over make it refusal 4, which the settings' refusals precede
+unfoldable pub exportedVerdict : Params → ℕ → ℕ → Lent → ℕ
+exportedVerdict p R S lent =
+    cond (isWholeCount 4 (lent .ends) && isWholeCount 8 (lent .indexes))
+    (verdict p R S (numbered lent))
     (firstNumber (checked p ∷ 4 ∷ []))

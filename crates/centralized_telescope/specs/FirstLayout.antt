@@ -1,11 +1,11 @@
--- Document 02, N7, tickets of the first layout, N1's before a number of blocks stood on them. They are written no more; this file is for the claim on
--- them alone.
+-- Document 02, N7, tickets of the first layout, N1's before a number of blocks stood on them. They are written no more; this file is
+-- for the claim on them alone.
 use mathlib.Core.Path.{_≡_}
 use mathlib.Core.List.{List, [], _++_}
 use Prim.Native.Nat.{ℕ, _^_, _<_}
 use lib.ListN.{length}
 use Rattle.sampling.specs.BigEndian.{bytesOf}
-use Rattle.centralized_telescope.specs.Elements.{Element}
+use Rattle.centralized_telescope.specs.Elements.{Element, Lent}
 use Rattle.centralized_telescope.specs.Blocks.{blocks}
 use Rattle.centralized_telescope.specs.Tickets.{elementsBytes, ticket, unread, ticketRead}
 
@@ -16,7 +16,7 @@ firstTicket R S es = blocks (bytesOf 8 R ++ (bytesOf 8 S ++ (bytesOf 4 (length e
 abbrev pub firstRefused : Type 0
 firstRefused =
     -- 02, N7: with R below 2^32 it is refused with 41, and no lent buffer is altered
-    ((R S : ℕ) (es : List Element) → R < 2 ^ 32 → (bytes ends marks indexes : List ℕ)
-    → ticketRead (firstTicket R S es) bytes ends marks indexes ≡ unread 41 bytes ends marks indexes)
+    ((R S : ℕ) (es : List Element) → R < 2 ^ 32 → (buffers : Lent)
+    → ticketRead (firstTicket R S es) buffers ≡ unread 41 buffers)
     -- but not with every R: here the first layout's bytes are those of another proof's ticket
     × (firstTicket (2 ^ 32) 0 [] ≡ ticket 0 0 [])

@@ -1,14 +1,15 @@
--- Document 02, N5, what planned amounts are good for: four claims over the definitions that the contracts of `plan`, `prove`, `write_proof` and
--- `write_ticket` equate their results with, and an example.
+-- Document 02, N5, what planned amounts are good for: four claims over the definitions that the contracts of `plan`, `prove`,
+-- `write_proof` and `write_ticket` equate their results with, and an example.
 use mathlib.Core.Path.{_≡_}
 use mathlib.Core.Logic.{_⊎_}
 use mathlib.Core.List.{List, [], _∷_}
 use Prim.Native.Nat.{ℕ, _*_, _^_, _≤_, _<_}
 use lib.ListN.{length, take, replicate}
+use Rattle.sampling.specs.declared.sample.U128.{U128}
 use Rattle.centralized_telescope.specs.declared.params.Params.{Params}
 use Rattle.centralized_telescope.specs.declared.planning.Amounts.{Amounts}
 use Rattle.centralized_telescope.specs.Lists.{Each}
-use Rattle.centralized_telescope.specs.Elements.{Element, markOf, elements}
+use Rattle.centralized_telescope.specs.Elements.{Element, markOf, elements, Lent, lentOf}
 use Rattle.centralized_telescope.specs.Prover.{Proved, refused, proved}
 use Rattle.centralized_telescope.specs.ProofList.{ProofList, proofList}
 use Rattle.centralized_telescope.specs.Tickets.{TicketWritten, ticketWritten}
@@ -24,8 +25,8 @@ IsPlan p longest a = planned p longest ≡ (0, a)
 abbrev pub planSuffices : Type 0
 planSuffices =
     (p : Params) (longest : ℕ) (a : Amounts) → IsPlan p longest a
-    → (bytes ends marks indexes places table : List ℕ) → a .places ≤ length places → a .«bin_table» ≤ length table
-    → proved p bytes ends marks indexes places table .number ≡ 6
+    → (lent : Lent) (places table : List ℕ) → a .places ≤ length places → a .«bin_table» ≤ length table
+    → proved p lent places table .number ≡ 6
     → ⊥
 
 -- ---- 02, N5: with fewer places or table numbers, on an accepted list, 6 always comes
@@ -33,62 +34,69 @@ planSuffices =
 abbrev pub planNeeded : Type 0
 planNeeded =
     (p : Params) (longest : ℕ) (a : Amounts) → IsPlan p longest a
-    → (bytes ends marks indexes places table : List ℕ) → Accepted bytes ends marks indexes → (length places < a .places) ⊎ (length table < a .«bin_table»)
-    → proved p bytes ends marks indexes places table ≡ refused 6 places table
+    → (lent : Lent) (places table : List ℕ) → Accepted lent → (length places < a .places) ⊎ (length table < a .«bin_table»)
+    → proved p lent places table ≡ refused 6 places table
 
 -- ---- 02, N5: no run's count passes the step count, whatever the run is lent
 
 abbrev pub stepsNotPassed : Type 0
 stepsNotPassed =
     (p : Params) (longest : ℕ) (a : Amounts) → IsPlan p longest a
-    → (bytes ends marks indexes places table : List ℕ) → proved p bytes ends marks indexes places table .count ≤ a .«most_steps»
+    → (lent : Lent) (places table : List ℕ) → proved p lent places table .count ≤ a .«most_steps»
 
 -- ---- 02, N5: the writer of the prover's proof never gives 42 on a buffer of so many blocks
 
--- a proof on its way: found in a list with `places` and `table` lent, written out as a list of its own into four buffers, and as a ticket into `out`
-module _ (p : Params) (bytes ends marks indexes places table : List ℕ) (bytes′ ends′ marks′ indexes′ out : List ℕ) where
+-- a proof on its way: found in a list with `places` and `table` lent, written out as a list of its own into four buffers, and as a ticket
+-- into `out`
+module _ (p : Params) (lent : Lent) (places table : List ℕ) (buffers : Lent) (out : List ℕ) where
   abbrev pub found : Proved
-  found = proved p bytes ends marks indexes places table
+  found = proved p lent places table
 
   abbrev pub ownList : ProofList
-  ownList = proofList (take (p .«proof_size») (found .places)) bytes ends marks indexes bytes′ ends′ marks′ indexes′
+  ownList = proofList (take (p .«proof_size») (found .places)) lent buffers
 
   abbrev pub ownTicket : TicketWritten
   ownTicket =
-      ticketWritten (found .retry) (found .search) (take (ownList .len) (ownList .bytes)) (take (p .«proof_size») (ownList .ends)) (take (p .«proof_size») (ownList .marks)) (take (p .«proof_size») (ownList .indexes)) out
+      let part : List ℕ → List ℕ = take (p .«proof_size») in
+      ticketWritten (found .retry) (found .search)
+      (lentOf (take (ownList .len) (ownList .bytes)) (part (ownList .ends)) (part (ownList .marks)) (part (ownList .indexes))) out
 
   pub record TicketFits (longest : ℕ) (a : Amounts) : Type 0 where
     -- the list is written where there is room for so many elements with the longest data
-    pub listed : a .places * longest ≤ length bytes′ → a .places ≤ length ends′ → a .places ≤ length marks′ → a .places ≤ length indexes′ → ownList .number ≡ 0
+    pub listed : a .places * longest ≤ length (buffers .bytes) → a .places ≤ length (buffers .ends)
+        → a .places ≤ length (buffers .marks) → a .places ≤ length (buffers .indexes) → ownList .number ≡ 0
     -- once it is, so is the ticket
     pub number : ownList .number ≡ 0 → ownTicket .number ≡ 0
     -- and it has no more blocks than planned
     pub blocks : ownList .number ≡ 0 → ownTicket .count ≤ a .«ticket_blocks»
     -- but as many where each element of the proof has an index and the longest data
     pub tight : ownList .number ≡ 0
-        → Each (λ (e : Element). (length (e .bytes) ≡ longest) × (markOf (e .index) ≡ 1)) (proofElements p (elements bytes ends marks indexes) found)
+        → Each (λ (e : Element). (length (e .bytes) ≡ longest) × (markOf (e .index) ≡ 1)) (proofElements p (elements lent) found)
         → ownTicket .count ≡ a .«ticket_blocks»
 
 abbrev pub ticketFits : Type 0
 ticketFits =
     (p : Params) (longest : ℕ) (a : Amounts) → IsPlan p longest a
-    → (bytes ends marks indexes places table : List ℕ) → Each (λ (e : Element). length (e .bytes) ≤ longest) (elements bytes ends marks indexes)
-    → proved p bytes ends marks indexes places table .number ≡ 0
-    → (bytes′ ends′ marks′ indexes′ out : List ℕ) → 512 * a .«ticket_blocks» ≤ length out
-    → TicketFits p bytes ends marks indexes places table bytes′ ends′ marks′ indexes′ out longest a
+    → (lent : Lent) (places table : List ℕ) → Each (λ (e : Element). length (e .bytes) ≤ longest) (elements lent)
+    → proved p lent places table .number ≡ 0
+    → (buffers : Lent) (out : List ℕ) → 512 * a .«ticket_blocks» ≤ length out
+    → TicketFits p lent places table buffers out longest a
 
--- ---- 02, N5: the bound on blocks is tight. The ticket of thirteen elements, each with an index and 24 data bytes, holds 505 bytes, one more than a
--- body has
+-- ---- 02, N5: the bound on blocks is tight. The ticket of thirteen elements, each with an index and 24 data bytes, holds 505 bytes, one
+-- more than a body has
 
 abbrev pub thirteenSettings : Params
 thirteenSettings =
-    record { «set_size» = 14; «proof_size» = 13; «max_retries» = 4; «search_width» = 3; «dfs_bound» = 600; x = record { hi = 2 ^ 63; lo = 0 } }
+    let half : U128 = record { hi = 2 ^ 63; lo = 0 } in
+    record { «set_size» = 14; «proof_size» = 13; «max_retries» = 4; «search_width» = 3; «dfs_bound» = 600; x = half }
 
 -- their ticket into a buffer of so many bytes
 abbrev pub thirteenInto : ℕ → ℕ → ℕ → TicketWritten
 thirteenInto R S size =
-    ticketWritten R S (replicate 312 97) (24 ∷ 48 ∷ 72 ∷ 96 ∷ 120 ∷ 144 ∷ 168 ∷ 192 ∷ 216 ∷ 240 ∷ 264 ∷ 288 ∷ 312 ∷ []) (replicate 13 1)
-    (0 ∷ 1 ∷ 2 ∷ 3 ∷ 4 ∷ 5 ∷ 6 ∷ 7 ∷ 8 ∷ 9 ∷ 10 ∷ 11 ∷ 12 ∷ []) (replicate size 0)
+    ticketWritten R S
+    (lentOf (replicate 312 97) (24 ∷ 48 ∷ 72 ∷ 96 ∷ 120 ∷ 144 ∷ 168 ∷ 192 ∷ 216 ∷ 240 ∷ 264 ∷ 288 ∷ 312 ∷ []) (replicate 13 1)
+    (0 ∷ 1 ∷ 2 ∷ 3 ∷ 4 ∷ 5 ∷ 6 ∷ 7 ∷ 8 ∷ 9 ∷ 10 ∷ 11 ∷ 12 ∷ []))
+    (replicate size 0)
 
 abbrev pub tightExample : Type 0
 tightExample =

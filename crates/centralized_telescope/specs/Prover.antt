@@ -9,7 +9,7 @@ use Rattle.centralized_telescope.specs.declared.params.Params.{Params}
 use Rattle.centralized_telescope.specs.declared.proof.ProofSearch.{ProofSearch}
 use Rattle.centralized_telescope.specs.declared.proof.ProofSearch.the-variants as answer
 use Rattle.centralized_telescope.specs.Params.{checked}
-use Rattle.centralized_telescope.specs.Elements.{Element, elements, listCheck}
+use Rattle.centralized_telescope.specs.Elements.{Element, elements, listCheck, Lent}
 use Rattle.centralized_telescope.specs.Lists.{over, firstNumber}
 use Rattle.centralized_telescope.specs.Refusals.{refusalNumber}
 use Rattle.centralized_telescope.specs.Bins.{binTable}
@@ -64,23 +64,25 @@ abbrev pub workspaceShort : Params → List ℕ → List ℕ → Bool
 workspaceShort p places table = ltb (length places) (p .«proof_size») || ltb (length table) (3 * p .«set_size» + 1)
 
 -- the first refusal in the table's order, or 0. Prover, 10, NotEnoughElements: the list is below set_size
-unfoldable pub proverRefusal : Params → List ℕ → List ℕ → List ℕ → List ℕ → List ℕ → List ℕ → ℕ
-proverRefusal p bytes ends marks indexes places table =
+unfoldable pub proverRefusal : Params → Lent → List ℕ → List ℕ → ℕ
+proverRefusal p lent places table =
     firstNumber
     (checked p
-    ∷ listCheck bytes ends marks indexes
+    ∷ listCheck lent
     ∷ cond (workspaceShort p places table) 6 0
-    ∷ cond (ltb (length ends) (p .«set_size»)) 10 0
+    ∷ cond (ltb (length (lent .ends)) (p .«set_size»)) 10 0
     ∷ [])
 
-unfoldable pub proved : Params → List ℕ → List ℕ → List ℕ → List ℕ → List ℕ → List ℕ → Proved
-proved p bytes ends marks indexes places table =
-    let refusal : ℕ = proverRefusal p bytes ends marks indexes places table in
-    cond (eqb refusal 0) (served p (elements bytes ends marks indexes) places table) (refused refusal places table)
+unfoldable pub proved : Params → Lent → List ℕ → List ℕ → Proved
+proved p lent places table =
+    let refusal : ℕ = proverRefusal p lent places table in
+    cond (eqb refusal 0) (served p (elements lent) places table) (refused refusal places table)
 
 -- 01's number and values for each answer of the prover, with the lent buffers as they are left
 abbrev pub provedBy : ProofSearch → List ℕ → List ℕ → Proved
-provedBy (answer.Found R S count) places table = record { number = 0; retry = R .0; search = S .0; count = count; places = places; table = table }
-provedBy (answer.NotFoundInBounds count) places table = record { number = 11; retry = 0; search = 0; count = count; places = places; table = table }
+provedBy (answer.Found R S count) places table =
+    record { number = 0; retry = R .0; search = S .0; count = count; places = places; table = table }
+provedBy (answer.NotFoundInBounds count) places table =
+    record { number = 11; retry = 0; search = 0; count = count; places = places; table = table }
 provedBy (answer.NotFound count) places table = record { number = 12; retry = 0; search = 0; count = count; places = places; table = table }
 provedBy (answer.Refused k) places table = refused (refusalNumber k) places table

@@ -1,5 +1,5 @@
--- Document 02, N1 and N7, a ticket: the number of its blocks, R, S and a proof's elements in the joined bodies of blocks; what the writer and the
--- reader answer, and every lent buffer afterwards.
+-- Document 02, N1 and N7, a ticket: the number of its blocks, R, S and a proof's elements in the joined bodies of blocks; what the writer
+-- and the reader answer, and every lent buffer afterwards.
 use mathlib.Core.Path.{_≡_}
 use mathlib.Core.Bool.{Bool, cond, not, _&&_, _||_}
 use mathlib.Core.List.{List, [], _∷_, _++_}
@@ -14,7 +14,7 @@ use Rattle.centralized_telescope.specs.declared.ticket.TicketProof.{Tick
 use Rattle.centralized_telescope.specs.declared.ticket.TicketProof.the-variants as proofAnswer
 use Rattle.centralized_telescope.specs.Lists.{Each, someOf, over, firstNumber, sameBytes}
 use Rattle.centralized_telescope.specs.Refusals.{refusalNumber}
-use Rattle.centralized_telescope.specs.Elements.{Element, markOf, numberOf, indexBytes, indexOf, elements, listCheck}
+use Rattle.centralized_telescope.specs.Elements.{Element, markOf, numberOf, indexBytes, indexOf, elements, listCheck, Lent}
 use Rattle.centralized_telescope.specs.ProofList.{joined, endsFrom, marksOf, indexesOf, buffersShort}
 use Rattle.centralized_telescope.specs.Blocks.{blockCount, blocks, bodiesOf, damaged}
 
@@ -109,21 +109,21 @@ pub record TicketWritten : Type 0 where
   pub count : ℕ
   pub buffer : List ℕ
 
-module _ (R S : ℕ) (bytes ends marks indexes : List ℕ) (out : List ℕ) where
+module _ (R S : ℕ) (lent : Lent) (out : List ℕ) where
   -- 02, N1, the writer's refusals: those of the list, then 42 for a buffer too short
   unfoldable pub ticketWriteRefusal : ℕ
   ticketWriteRefusal =
       firstNumber
-      (listCheck bytes ends marks indexes
-      ∷ cond (ltb (length out) (512 * blockCount (length (content R S (elements bytes ends marks indexes))))) 42 0
+      (listCheck lent
+      ∷ cond (ltb (length out) (512 * blockCount (length (content R S (elements lent))))) 42 0
       ∷ [])
 
   unfoldable pub ticketWritten : TicketWritten
   ticketWritten =
       cond (eqb ticketWriteRefusal 0) (record {
         number = 0;
-        count = blockCount (length (content R S (elements bytes ends marks indexes)));
-        buffer = over (ticket R S (elements bytes ends marks indexes)) out;
+        count = blockCount (length (content R S (elements lent)));
+        buffer = over (ticket R S (elements lent)) out;
       }) (record { number = ticketWriteRefusal; count = 0; buffer = out })
 
 abbrev pub ticketWrittenBy : TicketBlocks → List ℕ → TicketWritten
@@ -143,34 +143,34 @@ pub record TicketRead : Type 0 where
   pub marks : List ℕ
   pub indexes : List ℕ
 
-abbrev pub unread : ℕ → List ℕ → List ℕ → List ℕ → List ℕ → TicketRead
-unread k bytes ends marks indexes = record {
+abbrev pub unread : ℕ → Lent → TicketRead
+unread k buffers = record {
   number = k;
   retry = 0;
   search = 0;
   count = 0;
   len = 0;
-  bytes = bytes;
-  ends = ends;
-  marks = marks;
-  indexes = indexes;
+  bytes = buffers .bytes;
+  ends = buffers .ends;
+  marks = buffers .marks;
+  indexes = buffers .indexes;
 }
 
 -- R, S and elements, with the elements laid out over the first numbers of the buffers
-unfoldable pub readOut : ℕ → ℕ → List Element → List ℕ → List ℕ → List ℕ → List ℕ → TicketRead
-readOut R S es bytes ends marks indexes = record {
+unfoldable pub readOut : ℕ → ℕ → List Element → Lent → TicketRead
+readOut R S es buffers = record {
   number = 0;
   retry = R;
   search = S;
   count = length es;
   len = length (joined es);
-  bytes = over (joined es) bytes;
-  ends = over (endsFrom 0 es) ends;
-  marks = over (marksOf es) marks;
-  indexes = over (indexesOf es) indexes;
+  bytes = over (joined es) (buffers .bytes);
+  ends = over (endsFrom 0 es) (buffers .ends);
+  marks = over (marksOf es) (buffers .marks);
+  indexes = over (indexesOf es) (buffers .indexes);
 }
 
-module _ (t : List ℕ) (bytes ends marks indexes : List ℕ) where
+module _ (t : List ℕ) (buffers : Lent) where
   -- 02, N1, the reader's refusals: 40; 41 for bytes that are no ticket; 42 for a buffer too short
   unfoldable pub ticketReadRefusal : ℕ
   ticketReadRefusal =
@@ -178,7 +178,8 @@ module _ (t : List ℕ) (bytes ends marks indexes : List ℕ) where
       (cond (damaged t) 40 0
       ∷ cond (isTicket t) 0 41
       ∷ cond
-      (buffersShort (length (proofIn (bodiesOf t))) (length (joined (proofIn (bodiesOf t)))) (length bytes) (length ends) (length marks) (length indexes))
+      (buffersShort (length (proofIn (bodiesOf t))) (length (joined (proofIn (bodiesOf t))))
+      (length (buffers .bytes)) (length (buffers .ends)) (length (buffers .marks)) (length (buffers .indexes)))
       42
       0
       ∷ [])
@@ -186,19 +187,19 @@ module _ (t : List ℕ) (bytes ends marks indexes : List ℕ) where
   unfoldable pub ticketRead : TicketRead
   ticketRead =
       cond (eqb ticketReadRefusal 0)
-      (readOut (retryIn (bodiesOf t)) (searchIn (bodiesOf t)) (proofIn (bodiesOf t)) bytes ends marks indexes)
-      (unread ticketReadRefusal bytes ends marks indexes)
+      (readOut (retryIn (bodiesOf t)) (searchIn (bodiesOf t)) (proofIn (bodiesOf t)) buffers)
+      (unread ticketReadRefusal buffers)
 
-abbrev pub ticketReadBy : TicketProof → List ℕ → List ℕ → List ℕ → List ℕ → TicketRead
-ticketReadBy (proofAnswer.Read R S count len) bytes ends marks indexes = record {
+abbrev pub ticketReadBy : TicketProof → Lent → TicketRead
+ticketReadBy (proofAnswer.Read R S count len) buffers = record {
   number = 0;
   retry = R .0;
   search = S .0;
   count = count;
   len = len;
-  bytes = bytes;
-  ends = ends;
-  marks = marks;
-  indexes = indexes;
+  bytes = buffers .bytes;
+  ends = buffers .ends;
+  marks = buffers .marks;
+  indexes = buffers .indexes;
 }
-ticketReadBy (proofAnswer.Refused k) bytes ends marks indexes = unread (refusalNumber k) bytes ends marks indexes
+ticketReadBy (proofAnswer.Refused k) buffers = unread (refusalNumber k) buffers

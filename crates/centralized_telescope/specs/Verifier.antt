@@ -8,7 +8,7 @@ use lib.ListN.{length}
 use Rattle.sampling.specs.declared.sample.U128.{U128}
 use Rattle.centralized_telescope.specs.declared.params.Params.{Params}
 use Rattle.centralized_telescope.specs.Params.{checked}
-use Rattle.centralized_telescope.specs.Elements.{Element, elements, listCheck}
+use Rattle.centralized_telescope.specs.Elements.{Element, elements, listCheck, Lent}
 use Rattle.centralized_telescope.specs.Lists.{firstNumber}
 use Rattle.centralized_telescope.specs.Refusals.{refusalNumber}
 use Rattle.centralized_telescope.specs.Rounds.{startHash, nextHash, roundId, binOf, saysYes}
@@ -30,7 +30,9 @@ isBin (some bin) i = eqb bin i
 unfoldable pub follow : Params → ℕ → List ℕ → ℕ → List Element → Option (List ℕ)
 follow p R h i [] = some h
 follow p R h i (e ∷ es) =
-    cond (isBin (binOf (p .«set_size») R e) i) (ifSome (roundId (p .«set_size») (nextHash h e)) (λ (j : ℕ). follow p R (nextHash h e) j es)) none
+    cond (isBin (binOf (p .«set_size») R e) i)
+    (ifSome (roundId (p .«set_size») (nextHash h e)) (λ (j : ℕ). follow p R (nextHash h e) j es))
+    none
 
 unfoldable pub lastHash : Params → ℕ → ℕ → List Element → Option (List ℕ)
 lastHash p R S es = ifSome (roundId (p .«set_size») (startHash R S)) (λ (i : ℕ). follow p R (startHash R S) i es)
@@ -52,9 +54,8 @@ judged p R S es =
     cond (eqb (length es) (p .«proof_size»)) (cond (countersOut p R S) 21 (cond (yesOn (p .x) (lastHash p R S es)) 0 22)) 20
 
 -- the number of the first line that the call meets, or 0
-unfoldable pub verdict : Params → ℕ → ℕ → List ℕ → List ℕ → List ℕ → List ℕ → ℕ
-verdict p R S bytes ends marks indexes =
-    firstNumber (checked p ∷ listCheck bytes ends marks indexes ∷ judged p R S (elements bytes ends marks indexes) ∷ [])
+unfoldable pub verdict : Params → ℕ → ℕ → Lent → ℕ
+verdict p R S lent = firstNumber (checked p ∷ listCheck lent ∷ judged p R S (elements lent) ∷ [])
 
 -- 01's number for each answer of the verifier
 abbrev pub verdictNumber : Verdict → ℕ

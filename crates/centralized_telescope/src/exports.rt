@@ -3,9 +3,10 @@ ghost use mathlib.Core.Path.{_≡_};
 ghost use mathlib.Core.Bool.{_||_};
 ghost use Prim.Native.Nat.{_/_, _<_};
 ghost use lib.ListN.{length, getD};
-ghost use Rattle.centralized_telescope.specs.Elements.{elements, endWrong, dataLong, listCheck, listNumber};
+ghost use Rattle.centralized_telescope.specs.Elements.{elements, endWrong, dataLong, listCheck, listNumber, lentAtEntry};
 ghost use Rattle.centralized_telescope.specs.Verifier.{lastHash, yesOn, judged, verdictNumber};
-ghost use Rattle.centralized_telescope.specs.Exports.{settingsOf, numbersOf, exportedVerdict};
+ghost use Rattle.centralized_telescope.specs.inner.ListReading.{lentNow};
+ghost use Rattle.centralized_telescope.specs.Exports.{settingsOf, numbersOf, numbered, exportedVerdict};
 use crate::errors::Refusal;
 use crate::numbers::number;
 use crate::numbers::wide;
@@ -66,7 +67,8 @@ fn either(a: bool, b: bool) -> bool
 
 // The faults of the ends, looked for at one end at a time.
 fn find_in_ends(ends: &[u8], limit: usize) -> EndsFound
-    ensures { λ r. ⌜ (r .wrong ≡ endWrong 0 limit (numbersOf 4 (now (ends .entry)))) × (r .long ≡ dataLong 0 (numbersOf 4 (now (ends .entry)))) ⌝ }
+    ensures { λ r.
+        ⌜ (r .wrong ≡ endWrong 0 limit (numbersOf 4 (now (ends .entry)))) × (r .long ≡ dataLong 0 (numbersOf 4 (now (ends .entry)))) ⌝ }
 {
     let mut from: usize = 0;
     let mut wrong = false;
@@ -84,7 +86,7 @@ fn find_in_ends(ends: &[u8], limit: usize) -> EndsFound
 
 // Whether a list with ends and indexes in bytes, of whole counts, is accepted.
 fn check_bytes(data: &[u8], ends: &[u8], marks: &[u8], indexes: &[u8]) -> ListCheck
-    ensures { λ r. ⌜ listNumber r ≡ listCheck (now («data» .entry)) (numbersOf 4 (now (ends .entry))) (now (marks .entry)) (numbersOf 8 (now (indexes .entry))) ⌝ }
+    ensures { λ r. ⌜ listNumber r ≡ listCheck (numbered (lentAtEntry «data» ends marks indexes)) ⌝ }
 {
     let mark_over = some_mark_over(marks);
     let found = find_in_ends(ends, data.len());
@@ -108,8 +110,8 @@ fn chain_passes_in_bytes(
     marks: &[u8],
     indexes: &[u8],
 ) -> bool
-    requires { ⌜ listCheck (now «data») (numbersOf 4 (now ends)) (now marks) (numbersOf 8 (now indexes)) ≡ 0 ⌝ }
-    ensures { λ r. ⌜ r ≡ yesOn (p .x) (lastHash p (retry .0) (search .0) (elements (now («data» .entry)) (numbersOf 4 (now (ends .entry))) (now (marks .entry)) (numbersOf 8 (now (indexes .entry))))) ⌝ }
+    requires { ⌜ listCheck (numbered (lentNow «data» ends marks indexes)) ≡ 0 ⌝ }
+    ensures { λ r. ⌜ r ≡ yesOn (p .x) (lastHash p (retry .0) (search .0) (elements (numbered (lentAtEntry «data» ends marks indexes)))) ⌝ }
 {
     let mut round = first_round(p, retry, search);
     let mut start: usize = 0;
@@ -141,8 +143,8 @@ fn judge_bytes(
     marks: &[u8],
     indexes: &[u8],
 ) -> Verdict
-    requires { ⌜ listCheck (now «data») (numbersOf 4 (now ends)) (now marks) (numbersOf 8 (now indexes)) ≡ 0 ⌝ }
-    ensures { λ r. ⌜ verdictNumber r ≡ judged p (retry .0) (search .0) (elements (now («data» .entry)) (numbersOf 4 (now (ends .entry))) (now (marks .entry)) (numbersOf 8 (now (indexes .entry)))) ⌝ }
+    requires { ⌜ listCheck (numbered (lentNow «data» ends marks indexes)) ≡ 0 ⌝ }
+    ensures { λ r. ⌜ verdictNumber r ≡ judged p (retry .0) (search .0) (elements (numbered (lentAtEntry «data» ends marks indexes))) ⌝ }
 {
     let counts = judge_counts(p, retry, search, marks.len());
     if verdict_number(counts) != 0 {
@@ -161,7 +163,7 @@ fn verify_bytes(
     marks: &[u8],
     indexes: &[u8],
 ) -> Verdict
-    ensures { λ r. ⌜ verdictNumber r ≡ exportedVerdict p (retry .0) (search .0) (now («data» .entry)) (now (ends .entry)) (now (marks .entry)) (now (indexes .entry)) ⌝ }
+    ensures { λ r. ⌜ verdictNumber r ≡ exportedVerdict p (retry .0) (search .0) (lentAtEntry «data» ends marks indexes) ⌝ }
 {
     match check_params(p) {
         Checked::Lawful => {}
@@ -202,7 +204,8 @@ pub extern "C" fn alba_verify(
     marks: &[u8],
     indexes: &[u8],
 ) -> u32
-    ensures { λ r. ⌜ r ≡ exportedVerdict (settingsOf «set_size» «proof_size» «max_retries» «search_width» «dfs_bound» «x_high» «x_low») «retry_counter» «search_counter» (now («data» .entry)) (now (ends .entry)) (now (marks .entry)) (now (indexes .entry)) ⌝ }
+    ensures { λ r. ⌜ r ≡ exportedVerdict (settingsOf «set_size» «proof_size» «max_retries» «search_width» «dfs_bound» «x_high» «x_low»)
+        «retry_counter» «search_counter» (lentAtEntry «data» ends marks indexes) ⌝ }
 {
     let p = Params {
         set_size,

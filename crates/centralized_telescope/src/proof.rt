@@ -6,11 +6,12 @@ ghost use Prim.Native.Nat.{ℕ, _+_, _*_, _<_, _≤_};
 ghost use lib.ListN.{length, take, drop};
 ghost use lib.Seq.{slice};
 ghost use Rattle.centralized_telescope.specs.Params.{checked};
-ghost use Rattle.centralized_telescope.specs.Elements.{Element, elements, listCheck};
+ghost use Rattle.centralized_telescope.specs.Elements.{Element, elements, listCheck, lentAtEntry};
 ghost use Rattle.centralized_telescope.specs.Prover.{provedBy, served};
-ghost use Rattle.centralized_telescope.specs.inner.Visit.{tryOn, visited, walked, tried, outcomeOf, attemptOf, written, writtenFrom, Ready, Span};
+ghost use Rattle.centralized_telescope.specs.inner.Visit.{tryOn, visited, walked, tried, attemptOf, written, Ready};
+ghost use Rattle.centralized_telescope.specs.inner.Visit.{CanVisit, CanWalk, VisitEnds, WalkEnds};
 ghost use Rattle.centralized_telescope.specs.Verifier.{lastHash, yesOn, judged, verdictNumber};
-ghost use Rattle.centralized_telescope.specs.inner.ListReading.{lent};
+ghost use Rattle.centralized_telescope.specs.inner.ListReading.{elementOf, lentNow};
 ghost use Rattle.centralized_telescope.specs.inner.RoundAnswers.{idOption};
 ghost use Rattle.centralized_telescope.specs.inner.Following.{isNowhere, isMet, followed, countsNumber};
 use crate::bins::fill_table;
@@ -76,10 +77,9 @@ fn visit(
     steps: u64,
     places: &mut [u32],
 ) -> Outcome
-    requires { ⌜ Ready p (now «data») (now ends) (now marks) (now indexes) (retry .0) (now table) (length (now places)) ⌝ }
-    requires { ⌜ (id < p .«set_size») × (depth ≤ p .«proof_size») × (steps < p .«dfs_bound») ⌝ }
-    ensures { λ r. ⌜ r ≡ outcomeOf (visited (tryOn p (now («data» .entry)) (now (ends .entry)) (now (marks .entry)) (now (indexes .entry)) (retry .0)) (search .0) h id (take depth path) depth steps) ⌝ }
-    ensures { λ r. ⌜ now (places .exit) ≡ writtenFrom p depth (visited (tryOn p (now («data» .entry)) (now (ends .entry)) (now (marks .entry)) (now (indexes .entry)) (retry .0)) (search .0) h id (take depth path) depth steps) (now (places .entry)) ⌝ }
+    requires { ⌜ CanVisit p (lentNow «data» ends marks indexes) (retry .0) (now table) (length (now places)) id depth steps ⌝ }
+    ensures { λ r. ⌜ VisitEnds p depth (visited (tryOn p (lentAtEntry «data» ends marks indexes) (retry .0)) (search .0) h id
+        (take depth path) depth steps) r (now (places .entry)) (now (places .exit)) ⌝ }
 {
     if depth < p.proof_size as usize {
         let i = id as usize;
@@ -129,11 +129,9 @@ fn walk(
     steps: u64,
     places: &mut [u32],
 ) -> Outcome
-    requires { ⌜ Ready p (now «data») (now ends) (now marks) (now indexes) (retry .0) (now table) (length (now places)) ⌝ }
-    requires { ⌜ Span p (now table) from to ⌝ }
-    requires { ⌜ (depth < p .«proof_size») × (steps ≤ p .«dfs_bound») ⌝ }
-    ensures { λ r. ⌜ r ≡ outcomeOf (walked (tryOn p (now («data» .entry)) (now (ends .entry)) (now (marks .entry)) (now (indexes .entry)) (retry .0)) (search .0) h (take depth path) depth (slice from to (now (table .entry))) steps) ⌝ }
-    ensures { λ r. ⌜ now (places .exit) ≡ written (walked (tryOn p (now («data» .entry)) (now (ends .entry)) (now (marks .entry)) (now (indexes .entry)) (retry .0)) (search .0) h (take depth path) depth (slice from to (now (table .entry))) steps) (now (places .entry)) ⌝ }
+    requires { ⌜ CanWalk p (lentNow «data» ends marks indexes) (retry .0) (now table) (length (now places)) from to depth steps ⌝ }
+    ensures { λ r. ⌜ WalkEnds (walked (tryOn p (lentAtEntry «data» ends marks indexes) (retry .0)) (search .0) h (take depth path) depth
+        (slice from to (now (table .entry))) steps) r (now (places .entry)) (now (places .exit)) ⌝ }
 {
     let size = p.proof_size as usize;
     let mut count = steps;
@@ -195,9 +193,10 @@ fn prove_index(
     table: &[u32],
     places: &mut [u32],
 ) -> Attempt
-    requires { ⌜ Ready p (now «data») (now ends) (now marks) (now indexes) (retry .0) (now table) (length (now places)) ⌝ }
-    ensures { λ r. ⌜ r ≡ attemptOf (tried (tryOn p (now («data» .entry)) (now (ends .entry)) (now (marks .entry)) (now (indexes .entry)) (retry .0)) (p .«search_width») 0 0) ⌝ }
-    ensures { λ r. ⌜ now (places .exit) ≡ written (tried (tryOn p (now («data» .entry)) (now (ends .entry)) (now (marks .entry)) (now (indexes .entry)) (retry .0)) (p .«search_width») 0 0) (now (places .entry)) ⌝ }
+    requires { ⌜ Ready p (lentNow «data» ends marks indexes) (retry .0) (now table) (length (now places)) ⌝ }
+    ensures { λ r. ⌜ r ≡ attemptOf (tried (tryOn p (lentAtEntry «data» ends marks indexes) (retry .0)) (p .«search_width») 0 0) ⌝ }
+    ensures { λ r. ⌜ now (places .exit)
+        ≡ written (tried (tryOn p (lentAtEntry «data» ends marks indexes) (retry .0)) (p .«search_width») 0 0) (now (places .entry)) ⌝ }
 {
     let mut count: u64 = 0;
     let mut s: u64 = 0;
@@ -273,8 +272,10 @@ pub fn prove_routine(
     places: &mut [u32],
     table: &mut [u32],
 ) -> ProofSearch
-    requires { ⌜ (checked p ≡ 0) × (listCheck (now «data») (now ends) (now marks) (now indexes) ≡ 0) × (p .«proof_size» ≤ length (now places)) × (3 * p .«set_size» + 1 ≤ length (now table)) ⌝ }
-    ensures { λ r. ⌜ provedBy r (now (places .exit)) (now (table .exit)) ≡ served p (elements (now («data» .entry)) (now (ends .entry)) (now (marks .entry)) (now (indexes .entry))) (now (places .entry)) (now (table .entry)) ⌝ }
+    requires { ⌜ (checked p ≡ 0) × (listCheck (lentNow «data» ends marks indexes) ≡ 0) × (p .«proof_size» ≤ length (now places))
+        × (3 * p .«set_size» + 1 ≤ length (now table)) ⌝ }
+    ensures { λ r. ⌜ provedBy r (now (places .exit)) (now (table .exit))
+        ≡ served p (elements (lentAtEntry «data» ends marks indexes)) (now (places .entry)) (now (table .entry)) ⌝ }
 {
     let mut steps: u64 = 0;
     let mut r: u64 = 0;
@@ -371,7 +372,8 @@ pub fn first_round(p: Params, retry: RetryCounter, search: SearchCounter) -> Rou
 // The round behind another by an element, none unless the element's bin is the other's id.
 pub fn next_round(p: Params, retry: RetryCounter, round: Round, own: &[u8], index: Index) -> Round
     requires { ⌜ length (now own) ≤ 4096 ⌝ }
-    ensures { λ r. ⌜ ((es : List Element) → followed p (retry .0) r es ≡ followed p (retry .0) round (lent (now (own .entry)) (index .mark) (index .number) ∷ es)) ⌝ }
+    ensures { λ r. ⌜ ((es : List Element) → followed p (retry .0) r es
+        ≡ followed p (retry .0) round (elementOf (now (own .entry)) (index .mark) (index .number) ∷ es)) ⌝ }
 {
     let h = round.hash;
     if is_met(bin_of(retry, own, index, p.set_size), round) {
@@ -404,8 +406,8 @@ fn chain_passes(
     marks: &[u8],
     indexes: &[u64],
 ) -> bool
-    requires { ⌜ listCheck (now «data») (now ends) (now marks) (now indexes) ≡ 0 ⌝ }
-    ensures { λ r. ⌜ r ≡ yesOn (p .x) (lastHash p (retry .0) (search .0) (elements (now («data» .entry)) (now (ends .entry)) (now (marks .entry)) (now (indexes .entry)))) ⌝ }
+    requires { ⌜ listCheck (lentNow «data» ends marks indexes) ≡ 0 ⌝ }
+    ensures { λ r. ⌜ r ≡ yesOn (p .x) (lastHash p (retry .0) (search .0) (elements (lentAtEntry «data» ends marks indexes))) ⌝ }
 {
     let mut round = first_round(p, retry, search);
     let mut i = 0;
@@ -458,8 +460,8 @@ pub fn judge(
     marks: &[u8],
     indexes: &[u64],
 ) -> Verdict
-    requires { ⌜ listCheck (now «data») (now ends) (now marks) (now indexes) ≡ 0 ⌝ }
-    ensures { λ r. ⌜ verdictNumber r ≡ judged p (retry .0) (search .0) (elements (now («data» .entry)) (now (ends .entry)) (now (marks .entry)) (now (indexes .entry))) ⌝ }
+    requires { ⌜ listCheck (lentNow «data» ends marks indexes) ≡ 0 ⌝ }
+    ensures { λ r. ⌜ verdictNumber r ≡ judged p (retry .0) (search .0) (elements (lentAtEntry «data» ends marks indexes)) ⌝ }
 {
     let counts = judge_counts(p, retry, search, ends.len());
     if verdict_number(counts) != 0 {

@@ -5,9 +5,9 @@ ghost use mathlib.Core.Bool.{false};
 ghost use Prim.Native.Nat.{_≤_};
 ghost use lib.Dec.{ltb};
 ghost use lib.ListN.{length};
-ghost use Rattle.centralized_telescope.specs.Elements.{endWrong, listCheck};
+ghost use Rattle.centralized_telescope.specs.Elements.{endWrong, listCheck, lentAtEntry, lentAtExit};
 ghost use Rattle.centralized_telescope.specs.ProofList.{placeOut, joined, chosen, listOver, buffersShort, proofList, proofListOf};
-ghost use Rattle.centralized_telescope.specs.inner.ListReading.{dataOf};
+ghost use Rattle.centralized_telescope.specs.inner.ListReading.{dataOf, lentNow};
 use crate::errors::Refusal;
 use crate::numbers::copy_at;
 use crate::types::ListCheck;
@@ -67,7 +67,8 @@ fn some_buffer_short(
 ) -> bool
     requires { ⌜ (endWrong 0 (length (now «data»)) (now ends) ≡ false) × (placeOut (length (now ends)) (now places) ≡ false) ⌝ }
     ensures { λ r. ⌜ r ≡ buffersShort (length (now (places .entry)))
-        (length (dataOf (now («data» .entry)) (now (ends .entry)) (now (places .entry)))) «data_room» «ends_room» «marks_room» «indexes_room» ⌝ }
+        (length (dataOf (now («data» .entry)) (now (ends .entry)) (now (places .entry))))
+        «data_room» «ends_room» «marks_room» «indexes_room» ⌝ }
 {
     if ends_room < places.len() {
         return true;
@@ -93,12 +94,13 @@ fn write_elements(
     out_marks: &mut [u8],
     out_indexes: &mut [u64],
 ) -> Written
-    requires { ⌜ (listCheck (now «data») (now ends) (now marks) (now indexes) ≡ 0) × (length (now places) ≤ 65536) × (placeOut (length (now ends)) (now places) ≡ false)
-        × (buffersShort (length (now places)) (length (joined (chosen (now places) (now «data») (now ends) (now marks) (now indexes))))
+    requires { ⌜ (listCheck (lentNow «data» ends marks indexes) ≡ 0) × (length (now places) ≤ 65536)
+        × (placeOut (length (now ends)) (now places) ≡ false)
+        × (buffersShort (length (now places)) (length (joined (chosen (now places) (lentNow «data» ends marks indexes))))
         (length (now «out_data»)) (length (now «out_ends»)) (length (now «out_marks»)) (length (now «out_indexes»)) ≡ false) ⌝ }
-    ensures { λ r. ⌜ proofListOf r (now («out_data» .exit)) (now («out_ends» .exit)) (now («out_marks» .exit)) (now («out_indexes» .exit))
-        ≡ listOver (chosen (now (places .entry)) (now («data» .entry)) (now (ends .entry)) (now (marks .entry)) (now (indexes .entry)))
-        (now («out_data» .entry)) (now («out_ends» .entry)) (now («out_marks» .entry)) (now («out_indexes» .entry)) ⌝ }
+    ensures { λ r. ⌜ proofListOf r (lentAtExit «out_data» «out_ends» «out_marks» «out_indexes»)
+        ≡ listOver (chosen (now (places .entry)) (lentAtEntry «data» ends marks indexes))
+        (lentAtEntry «out_data» «out_ends» «out_marks» «out_indexes») ⌝ }
 {
     let mut used: usize = 0;
     let mut i = 0;
@@ -129,9 +131,9 @@ pub fn write_proof(
     out_marks: &mut [u8],
     out_indexes: &mut [u64],
 ) -> Written
-    ensures { λ r. ⌜ proofListOf r (now («out_data» .exit)) (now («out_ends» .exit)) (now («out_marks» .exit)) (now («out_indexes» .exit))
-        ≡ proofList (now (places .entry)) (now («data» .entry)) (now (ends .entry)) (now (marks .entry)) (now (indexes .entry))
-        (now («out_data» .entry)) (now («out_ends» .entry)) (now («out_marks» .entry)) (now («out_indexes» .entry)) ⌝ }
+    ensures { λ r. ⌜ proofListOf r (lentAtExit «out_data» «out_ends» «out_marks» «out_indexes»)
+        ≡ proofList (now (places .entry)) (lentAtEntry «data» ends marks indexes)
+        (lentAtEntry «out_data» «out_ends» «out_marks» «out_indexes») ⌝ }
 {
     match check_list(data, ends, marks, indexes) {
         ListCheck::Accepted => {}

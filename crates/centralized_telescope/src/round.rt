@@ -5,9 +5,9 @@ ghost use Prim.Native.Nat.{_+_, _^_, _<_, _≤_};
 ghost use lib.ListN.{length, take};
 ghost use Rattle.sampling.specs.Fips180.{sha256};
 ghost use Rattle.sampling.specs.Sample.{drawNumber};
-ghost use Rattle.centralized_telescope.specs.Elements.{elements, elementAt, tail, listCheck};
+ghost use Rattle.centralized_telescope.specs.Elements.{elements, elementAt, tail, listCheck, lentAtEntry};
 ghost use Rattle.centralized_telescope.specs.Rounds.{startHash, nextHash, drawn, roundId, binOf, saysYes};
-ghost use Rattle.centralized_telescope.specs.inner.ListReading.{lent};
+ghost use Rattle.centralized_telescope.specs.inner.ListReading.{elementOf, lentNow};
 ghost use Rattle.centralized_telescope.specs.inner.RoundAnswers.{idOption};
 use crate::types::Index;
 use crate::types::data_of;
@@ -49,7 +49,8 @@ fn digest(label: &[u8], a: &[u8], b: &[u8], c: &[u8]) -> [u8; 32]
 // The digest of a label, the bytes `first` and the tail of an element, which is given by its data and its index.
 fn tail_digest(label: &[u8], first: &[u8], own: &[u8], index: Index) -> [u8; 32]
     requires { ⌜ (length (now label) + length (now first) ≤ 64) × (length (now own) ≤ 4096) ⌝ }
-    ensures { λ r. ⌜ r ≡ sha256 (now (label .entry) ++ (now (first .entry) ++ tail (lent (now (own .entry)) (index .mark) (index .number)))) ⌝ }
+    ensures { λ r.
+        ⌜ r ≡ sha256 (now (label .entry) ++ (now (first .entry) ++ tail (elementOf (now (own .entry)) (index .mark) (index .number)))) ⌝ }
 {
     let hashed = index_bytes(index);
     let bytes = hashed.bytes;
@@ -69,7 +70,7 @@ pub fn start_hash(retry: RetryCounter, search: SearchCounter) -> [u8; 32]
 // The hash of the round after the one with the hash h, by an element.
 pub fn hash_after(h: [u8; 32], own: &[u8], index: Index) -> [u8; 32]
     requires { ⌜ length (now own) ≤ 4096 ⌝ }
-    ensures { λ r. ⌜ r ≡ nextHash h (lent (now (own .entry)) (index .mark) (index .number)) ⌝ }
+    ensures { λ r. ⌜ r ≡ nextHash h (elementOf (now (own .entry)) (index .mark) (index .number)) ⌝ }
 {
     tail_digest(b"Telescope-round_hash", &h, own, index)
 }
@@ -83,8 +84,8 @@ pub fn next_hash(
     indexes: &[u64],
     place: usize,
 ) -> [u8; 32]
-    requires { ⌜ (listCheck (now «data») (now ends) (now marks) (now indexes) ≡ 0) × (place < length (now ends)) ⌝ }
-    ensures { λ r. ⌜ r ≡ nextHash h (elementAt (elements (now («data» .entry)) (now (ends .entry)) (now (marks .entry)) (now (indexes .entry))) place) ⌝ }
+    requires { ⌜ (listCheck (lentNow «data» ends marks indexes) ≡ 0) × (place < length (now ends)) ⌝ }
+    ensures { λ r. ⌜ r ≡ nextHash h (elementAt (elements (lentAtEntry «data» ends marks indexes)) place) ⌝ }
 {
     let own = data_of(data, ends, place);
     hash_after(h, own, index_of(marks, indexes, place))
@@ -130,7 +131,7 @@ pub fn round_of(h: [u8; 32], n: u64) -> Round
 // The bin of an element, in the try `retry`.
 pub fn bin_of(retry: RetryCounter, own: &[u8], index: Index, n: u64) -> Id
     requires { ⌜ length (now own) ≤ 4096 ⌝ }
-    ensures { λ r. ⌜ idOption r ≡ binOf n (retry .0) (lent (now (own .entry)) (index .mark) (index .number)) ⌝ }
+    ensures { λ r. ⌜ idOption r ≡ binOf n (retry .0) (elementOf (now (own .entry)) (index .mark) (index .number)) ⌝ }
 {
     let retry_bytes = eight_bytes(retry.0);
     round_id(
@@ -149,8 +150,8 @@ pub fn bin_hash(
     place: usize,
     n: u64,
 ) -> Id
-    requires { ⌜ (listCheck (now «data») (now ends) (now marks) (now indexes) ≡ 0) × (place < length (now ends)) ⌝ }
-    ensures { λ r. ⌜ idOption r ≡ binOf n (retry .0) (elementAt (elements (now («data» .entry)) (now (ends .entry)) (now (marks .entry)) (now (indexes .entry))) place) ⌝ }
+    requires { ⌜ (listCheck (lentNow «data» ends marks indexes) ≡ 0) × (place < length (now ends)) ⌝ }
+    ensures { λ r. ⌜ idOption r ≡ binOf n (retry .0) (elementAt (elements (lentAtEntry «data» ends marks indexes)) place) ⌝ }
 {
     let own = data_of(data, ends, place);
     bin_of(retry, own, index_of(marks, indexes, place), n)

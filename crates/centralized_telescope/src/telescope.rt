@@ -1,5 +1,6 @@
 // The calls that a user makes.
 ghost use mathlib.Core.Path.{_≡_};
+ghost use Rattle.centralized_telescope.specs.Elements.{lentAtEntry};
 ghost use Rattle.centralized_telescope.specs.Prover.{proved, provedBy};
 ghost use Rattle.centralized_telescope.specs.Verifier.{verdict, verdictNumber};
 use crate::errors::Refusal;
@@ -29,7 +30,8 @@ pub fn prove(
     places: &mut [u32],
     table: &mut [u32],
 ) -> ProofSearch
-    ensures { λ r. ⌜ provedBy r (now (places .exit)) (now (table .exit)) ≡ proved p (now («data» .entry)) (now (ends .entry)) (now (marks .entry)) (now (indexes .entry)) (now (places .entry)) (now (table .entry)) ⌝ }
+    ensures { λ r. ⌜ provedBy r (now (places .exit)) (now (table .exit))
+        ≡ proved p (lentAtEntry «data» ends marks indexes) (now (places .entry)) (now (table .entry)) ⌝ }
 {
     match check_params(p) {
         Checked::Lawful => {}
@@ -67,7 +69,7 @@ pub fn verify(
     marks: &[u8],
     indexes: &[u64],
 ) -> Verdict
-    ensures { λ r. ⌜ verdictNumber r ≡ verdict p («retry_counter» .0) («search_counter» .0) (now («data» .entry)) (now (ends .entry)) (now (marks .entry)) (now (indexes .entry)) ⌝ }
+    ensures { λ r. ⌜ verdictNumber r ≡ verdict p («retry_counter» .0) («search_counter» .0) (lentAtEntry «data» ends marks indexes) ⌝ }
 {
     match check_params(p) {
         Checked::Lawful => {}

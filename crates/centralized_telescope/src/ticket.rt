@@ -7,11 +7,14 @@ ghost use lib.Dec.{ltb};
 ghost use lib.ListN.{length, take, drop};
 ghost use Rattle.sampling.specs.BigEndian.{bigEndian, bytesOf};
 ghost use Rattle.centralized_telescope.specs.Lists.{someOf, over};
-ghost use Rattle.centralized_telescope.specs.Elements.{elements, indexOf, listCheck};
-ghost use Rattle.centralized_telescope.specs.ProofList.{listOver, buffersShort};
+ghost use Rattle.centralized_telescope.specs.Elements.{elements, indexOf, listCheck, lentAtEntry, lentAtExit};
+ghost use Rattle.centralized_telescope.specs.inner.ListReading.{lentNow};
+ghost use Rattle.centralized_telescope.specs.ProofList.{listOver, buffersShort, withBuffers};
 ghost use Rattle.centralized_telescope.specs.Blocks.{blockCount, bodiesOf, damaged};
-ghost use Rattle.centralized_telescope.specs.Tickets.{headBytes, elementsBytes, content, blocksIn, elementsIn, ticketWritten, ticketWrittenBy, ticketRead, ticketReadBy, elementsPart};
-ghost use Rattle.centralized_telescope.specs.inner.TicketReading.{HeadSays, LayoutSays, FoundSays, allLaidOut, dataSize, fillingRight, listed};
+ghost use Rattle.centralized_telescope.specs.Tickets.{headBytes, elementsBytes, content, blocksIn, elementsIn, ticketWritten};
+ghost use Rattle.centralized_telescope.specs.Tickets.{ticketWrittenBy, ticketRead, ticketReadBy, elementsPart};
+ghost use Rattle.centralized_telescope.specs.inner.TicketReading.{HeadSays, LayoutSays, FoundSays};
+ghost use Rattle.centralized_telescope.specs.inner.TicketReading.{allLaidOut, dataSize, fillingRight};
 use crate::blocks::copy_from_bodies;
 use crate::blocks::fill_zeros;
 use crate::blocks::is_damaged;
@@ -76,8 +79,9 @@ fn element_head(mark: u8, index: u64, size: usize) -> ElementHead
 
 // How many bytes the elements of an accepted list take.
 fn elements_size(data: &[u8], ends: &[u32], marks: &[u8], indexes: &[u64]) -> usize
-    requires { ⌜ listCheck (now «data») (now ends) (now marks) (now indexes) ≡ 0 ⌝ }
-    ensures { λ r. ⌜ (r ≡ length (elementsBytes (elements (now («data» .entry)) (now (ends .entry)) (now (marks .entry)) (now (indexes .entry))))) × (r ≤ 4109 * length (now (ends .entry))) ⌝ }
+    requires { ⌜ listCheck (lentNow «data» ends marks indexes) ≡ 0 ⌝ }
+    ensures { λ r.
+        ⌜ (r ≡ length (elementsBytes (elements (lentAtEntry «data» ends marks indexes)))) × (r ≤ 4109 * length (now (ends .entry))) ⌝ }
 {
     let mut size: usize = 0;
     let mut i = 0;
@@ -99,9 +103,10 @@ fn write_elements_bytes(
     from: usize,
     out: &mut [u8],
 )
-    requires { ⌜ (listCheck (now «data») (now ends) (now marks) (now indexes) ≡ 0)
-        × (from + length (elementsBytes (elements (now «data») (now ends) (now marks) (now indexes))) ≤ length (now out)) ⌝ }
-    ensures { λ _. ⌜ now (out .exit) ≡ over (take from (now (out .entry)) ++ elementsBytes (elements (now («data» .entry)) (now (ends .entry)) (now (marks .entry)) (now (indexes .entry)))) (now (out .entry)) ⌝ }
+    requires { ⌜ (listCheck (lentNow «data» ends marks indexes) ≡ 0)
+        × (from + length (elementsBytes (elements (lentNow «data» ends marks indexes))) ≤ length (now out)) ⌝ }
+    ensures { λ _. ⌜ now (out .exit)
+        ≡ over (take from (now (out .entry)) ++ elementsBytes (elements (lentAtEntry «data» ends marks indexes))) (now (out .entry)) ⌝ }
 {
     let mut used = from;
     let mut i = 0;
@@ -142,10 +147,11 @@ fn write_content(
     indexes: &[u64],
     out: &mut [u8],
 )
-    requires { ⌜ (listCheck (now «data») (now ends) (now marks) (now indexes) ≡ 0)
-        × (blocks ≡ blockCount (24 + length (elementsBytes (elements (now «data») (now ends) (now marks) (now indexes)))))
-        × (length (content (retry .0) (search .0) (elements (now «data») (now ends) (now marks) (now indexes))) ≤ length (now out)) ⌝ }
-    ensures { λ _. ⌜ now (out .exit) ≡ over (content (retry .0) (search .0) (elements (now («data» .entry)) (now (ends .entry)) (now (marks .entry)) (now (indexes .entry)))) (now (out .entry)) ⌝ }
+    requires { ⌜ (listCheck (lentNow «data» ends marks indexes) ≡ 0)
+        × (blocks ≡ blockCount (24 + length (elementsBytes (elements (lentNow «data» ends marks indexes)))))
+        × (length (content (retry .0) (search .0) (elements (lentNow «data» ends marks indexes))) ≤ length (now out)) ⌝ }
+    ensures { λ _.
+        ⌜ now (out .exit) ≡ over (content (retry .0) (search .0) (elements (lentAtEntry «data» ends marks indexes))) (now (out .entry)) ⌝ }
 {
     let head = content_head(retry, search, ends.len());
     write_number(blocks as u64, &mut out[..4]);
@@ -153,8 +159,8 @@ fn write_content(
     write_elements_bytes(data, ends, marks, indexes, 24, out);
 }
 
-// Writes the ticket of R, S and a list of elements over the first bytes of a lent buffer. Data that belongs to no element and an index whose
-// mark is 0 aren't carried. A refusal leaves the buffer as it was.
+// Writes the ticket of R, S and a list of elements over the first bytes of a lent buffer. Data that belongs to no element and an index
+// whose mark is 0 aren't carried. A refusal leaves the buffer as it was.
 pub fn write_ticket(
     retry_counter: RetryCounter,
     search_counter: SearchCounter,
@@ -165,7 +171,7 @@ pub fn write_ticket(
     ticket: &mut [u8],
 ) -> TicketBlocks
     ensures { λ r. ⌜ ticketWrittenBy r (now («ticket» .exit))
-        ≡ ticketWritten («retry_counter» .0) («search_counter» .0) (now («data» .entry)) (now (ends .entry)) (now (marks .entry)) (now (indexes .entry)) (now («ticket» .entry)) ⌝ }
+        ≡ ticketWritten («retry_counter» .0) («search_counter» .0) (lentAtEntry «data» ends marks indexes) (now («ticket» .entry)) ⌝ }
 {
     match check_list(data, ends, marks, indexes) {
         ListCheck::Accepted => {}
@@ -391,10 +397,12 @@ fn read_elements(
     marks: &mut [u8],
     indexes: &mut [u64],
 ) -> usize
-    requires { ⌜ (24 ≤ 504 * (length (now ticket) / 512)) × (count ≤ 65536) × (allLaidOut count (elementsPart (bodiesOf (now ticket))) ≡ true)
-        × (dataSize count (elementsPart (bodiesOf (now ticket))) ≤ length (now «data»)) × (count ≤ length (now ends)) × (count ≤ length (now marks)) × (count ≤ length (now indexes)) ⌝ }
-    ensures { λ r. ⌜ listed r (now («data» .exit)) (now (ends .exit)) (now (marks .exit)) (now (indexes .exit))
-        ≡ listOver (elementsIn count (elementsPart (bodiesOf (now (ticket .entry))))) (now («data» .entry)) (now (ends .entry)) (now (marks .entry)) (now (indexes .entry)) ⌝ }
+    requires { ⌜ (24 ≤ 504 * (length (now ticket) / 512)) × (count ≤ 65536)
+        × (allLaidOut count (elementsPart (bodiesOf (now ticket))) ≡ true)
+        × (dataSize count (elementsPart (bodiesOf (now ticket))) ≤ length (now «data»)) × (count ≤ length (now ends))
+        × (count ≤ length (now marks)) × (count ≤ length (now indexes)) ⌝ }
+    ensures { λ r. ⌜ withBuffers 0 r (lentAtExit «data» ends marks indexes)
+        ≡ listOver (elementsIn count (elementsPart (bodiesOf (now (ticket .entry))))) (lentAtEntry «data» ends marks indexes) ⌝ }
 {
     let mut at: usize = 24;
     let mut used: usize = 0;
@@ -415,8 +423,8 @@ fn read_elements(
     used
 }
 
-// Reads a ticket: R and S in the answer, the elements as a list over the first numbers of the four lent buffers. A refusal leaves the buffers
-// as they were.
+// Reads a ticket: R and S in the answer, the elements as a list over the first numbers of the four lent buffers. A refusal leaves the
+// buffers as they were.
 pub fn read_ticket(
     ticket: &[u8],
     data: &mut [u8],
@@ -424,8 +432,8 @@ pub fn read_ticket(
     marks: &mut [u8],
     indexes: &mut [u64],
 ) -> TicketProof
-    ensures { λ r. ⌜ ticketReadBy r (now («data» .exit)) (now (ends .exit)) (now (marks .exit)) (now (indexes .exit))
-        ≡ ticketRead (now («ticket» .entry)) (now («data» .entry)) (now (ends .entry)) (now (marks .entry)) (now (indexes .entry)) ⌝ }
+    ensures { λ r. ⌜ ticketReadBy r (lentAtExit «data» ends marks indexes)
+        ≡ ticketRead (now («ticket» .entry)) (lentAtEntry «data» ends marks indexes) ⌝ }
 {
     if is_damaged(ticket) {
         return TicketProof::Refused(Refusal::DamagedTicket);

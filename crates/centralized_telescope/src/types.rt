@@ -4,11 +4,17 @@ ghost use mathlib.Core.Bool.{false, _||_};
 ghost use Prim.Native.Nat.{_-_, _<_, _≤_};
 ghost use lib.Dec.{ltb};
 ghost use lib.ListN.{length, take};
-ghost use Rattle.centralized_telescope.specs.Elements.{markOver, endWrong, dataLong, listCheck, listNumber, indexBytes, markOf, numberOf, indexOf};
+ghost use Rattle.centralized_telescope.specs.Elements.{maxDataBytes, markOver, endWrong, dataLong, listCheck, listNumber, indexBytes};
+ghost use Rattle.centralized_telescope.specs.Elements.{markOf, numberOf, indexOf, lentAtEntry};
 ghost use Rattle.centralized_telescope.specs.inner.ListReading.{foundNumber, startAt, dataAt, indexAt};
 use crate::errors::Refusal;
 use crate::numbers::wide;
 use sampling::eight_bytes;
+
+// An element's data has so many bytes at most, and a list so many elements.
+pub const MAX_DATA_BYTES: usize = 4096;
+
+pub const MAX_ELEMENTS: usize = 65536;
 
 // What the check of a lent list answers.
 pub enum ListCheck {
@@ -59,12 +65,12 @@ fn some_end_wrong(ends: &[u32], limit: usize) -> bool
 
 // Whether the element between an end and the next has over 4,096 data bytes.
 pub fn is_data_long(from: usize, end: usize) -> bool
-    ensures { λ r. ⌜ r ≡ ltb 4096 (end - from) ⌝ }
+    ensures { λ r. ⌜ r ≡ ltb maxDataBytes (end - from) ⌝ }
 {
     if end < from {
         return false;
     }
-    4096 < end - from
+    MAX_DATA_BYTES < end - from
 }
 
 fn some_data_long(ends: &[u32]) -> bool
@@ -106,7 +112,7 @@ pub fn list_answer(
     if end_wrong {
         return ListCheck::Refused(Refusal::Malformed);
     }
-    if 65536 < ends {
+    if MAX_ELEMENTS < ends {
         return ListCheck::Refused(Refusal::TooLarge);
     }
     if data_long {
@@ -117,7 +123,7 @@ pub fn list_answer(
 
 // Whether a lent list is accepted.
 pub fn check_list(data: &[u8], ends: &[u32], marks: &[u8], indexes: &[u64]) -> ListCheck
-    ensures { λ r. ⌜ listNumber r ≡ listCheck (now («data» .entry)) (now (ends .entry)) (now (marks .entry)) (now (indexes .entry)) ⌝ }
+    ensures { λ r. ⌜ listNumber r ≡ listCheck (lentAtEntry «data» ends marks indexes) ⌝ }
 {
     let mark_over = some_mark_over(marks);
     let end_wrong = some_end_wrong(ends, data.len());
@@ -171,7 +177,8 @@ pub fn data_of<'a>(data: &'a [u8], ends: &[u32], place: usize) -> &'a [u8]
 // The index of the element at a place, 0 and 0 where it has none: where the mark is 0 the index is not read.
 pub fn index_of(marks: &[u8], indexes: &[u64], place: usize) -> Index
     requires { ⌜ (place < length (now marks)) × (place < length (now indexes)) ⌝ }
-    ensures { λ r. ⌜ (r .mark ≡ markOf (indexAt (now (marks .entry)) (now (indexes .entry)) place)) × (r .number ≡ numberOf (indexAt (now (marks .entry)) (now (indexes .entry)) place)) ⌝ }
+    ensures { λ r. ⌜ (r .mark ≡ markOf (indexAt (now (marks .entry)) (now (indexes .entry)) place))
+        × (r .number ≡ numberOf (indexAt (now (marks .entry)) (now (indexes .entry)) place)) ⌝ }
 {
     if marks[place] != 1 {
         return Index { mark: 0, number: 0 };

@@ -6,6 +6,7 @@ use native.Mathlib.Omega.{arith}
 use borrow.Author.Tests.{le-leb, lt-leb}
 use lib.ListN.{length, set}
 use lib.Seq.{sets-eq}
+use Rattle.centralized_telescope.specs.Elements.{lentOf}
 use Rattle.centralized_telescope.specs.Prover.{Proved, proved, provedBy}
 use Rattle.centralized_telescope.specs.declared.params.Params.{Params}
 use Rattle.centralized_telescope.specs.declared.proof.ProofSearch.{ProofSearch}
@@ -14,7 +15,8 @@ use Rattle.harness_exports.specs.declared.Numbers.{Numbers}
 use Rattle.harness_exports.specs.Exported.{inNumbers, numbersOf, withCounters, exportedProve}
 
 -- three stores
-pub counters-put : (out : List ℕ) (n : Numbers) → 3 ≤ length out → set (set (set out 0 (n .retry)) 1 (n .search)) 2 (n .count) ≡ withCounters n out
+pub counters-put : (out : List ℕ) (n : Numbers) → 3 ≤ length out
+    → set (set (set out 0 (n .retry)) 1 (n .search)) 2 (n .count) ≡ withCounters n out
 unfolding withCounters
 counters-put out n h = rw (le-leb 3 (length out) h) (sets-eq (n .retry ∷ n .search ∷ n .count ∷ []) out 0 (omega arith))
 
@@ -24,7 +26,8 @@ counters-left out n h = rw (lt-leb 3 (length out) h)
 
 -- an answer's numbers, where k is its number and b what it is
 pub with-number : (a b : ProofSearch) (k : ℕ) → k ≡ provedBy a [] [] .number → a ≡ b
-    → _≡_ {A = Numbers} (record { number = k; retry = numbersOf b .retry; search = numbersOf b .search; count = numbersOf b .count }) (numbersOf a)
+    → _≡_ {A = Numbers} (record { number = k; retry = numbersOf b .retry; search = numbersOf b .search; count = numbersOf b .count })
+    (numbersOf a)
 with-number a b k e g = rw (e, g)
 
 -- the numbers don't hang on what is lent
@@ -34,14 +37,16 @@ same-numbers (answer.NotFoundInBounds count) places table = refl
 same-numbers (answer.NotFound count) places table = refl
 same-numbers (answer.Refused k) places table = refl
 
-same-places : (a : ProofSearch) (places table : List ℕ) → (places ≡ provedBy a places table .places) × (table ≡ provedBy a places table .table)
+same-places : (a : ProofSearch) (places table : List ℕ)
+    → (places ≡ provedBy a places table .places) × (table ≡ provedBy a places table .table)
 same-places (answer.Found R S count) places table = (refl, refl)
 same-places (answer.NotFoundInBounds count) places table = (refl, refl)
 same-places (answer.NotFound count) places table = (refl, refl)
 same-places (answer.Refused k) places table = (refl, refl)
 
-pub exported-so : (p : Params) (bytes ends marks indexes places table out : List ℕ) (a : ProofSearch) (n : Numbers) (places′ table′ out′ : List ℕ)
-    → provedBy a places′ table′ ≡ proved p bytes ends marks indexes places table
+pub exported-so : (p : Params) (bytes ends marks indexes places table out : List ℕ) (a : ProofSearch) (n : Numbers)
+    (places′ table′ out′ : List ℕ)
+    → provedBy a places′ table′ ≡ proved p (lentOf bytes ends marks indexes) places table
     → n ≡ numbersOf a
     → out′ ≡ withCounters n out
     → (n .number, places′, table′, out′) ≡ exportedProve p bytes ends marks indexes places table out
@@ -50,6 +55,7 @@ exported-so p bytes ends marks indexes places table out a n places′ table′ o
     let r = provedBy a places′ table′ in
     let m : n ≡ inNumbers r = en ∙ same-numbers a places′ table′ in
     let k = same-places a places′ table′ in
-    let here : _≡_ {A = ℕ × List ℕ × List ℕ × List ℕ} (n .number, places′, table′, out′) (r .number, r .places, r .table, withCounters (inNumbers r) out) =
+    let here : _≡_ {A = ℕ × List ℕ × List ℕ × List ℕ} (n .number, places′, table′, out′)
+    (r .number, r .places, r .table, withCounters (inNumbers r) out) =
     rw (eo, m, ← k .0, ← k .1) in
     here ∙ ap (λ (q : Proved). (q .number, q .places, q .table, withCounters (inNumbers q) out)) e

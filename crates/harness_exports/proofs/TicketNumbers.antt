@@ -6,6 +6,7 @@ use native.Mathlib.Omega.{arith}
 use borrow.Author.Tests.{le-leb, lt-leb}
 use lib.ListN.{length, set}
 use lib.Seq.{sets-eq}
+use Rattle.centralized_telescope.specs.Elements.{lentOf}
 use Rattle.centralized_telescope.specs.Tickets.{TicketWritten, ticketWritten, ticketWrittenBy, TicketRead, ticketRead, ticketReadBy}
 use Rattle.centralized_telescope.specs.declared.ticket.TicketBlocks.{TicketBlocks}
 use Rattle.centralized_telescope.specs.declared.ticket.TicketBlocks.the-variants as blocksAnswer
@@ -13,7 +14,8 @@ use Rattle.centralized_telescope.specs.declared.ticket.TicketProof.{TicketProof
 use Rattle.centralized_telescope.specs.declared.ticket.TicketProof.the-variants as proofAnswer
 use Rattle.harness_exports.specs.declared.BlocksNumbers.{BlocksNumbers}
 use Rattle.harness_exports.specs.declared.ReadNumbers.{ReadNumbers}
-use Rattle.harness_exports.specs.Exported.{inBlocksNumbers, blocksNumbers, withFirst, exportedWriteTicket, inReadNumbers, readNumbers, withRead, exportedReadTicket}
+use Rattle.harness_exports.specs.Exported.{inBlocksNumbers, blocksNumbers, withFirst, exportedWriteTicket, inReadNumbers, readNumbers}
+use Rattle.harness_exports.specs.Exported.{withRead, exportedReadTicket}
 
 -- ---- the writer
 
@@ -35,8 +37,9 @@ same-ticket : (a : TicketBlocks) (blocks : List ℕ) → blocks ≡ ticketWritte
 same-ticket (blocksAnswer.Written n) blocks = refl
 same-ticket (blocksAnswer.Refused k) blocks = refl
 
-pub exported-written : (R S : ℕ) (bytes ends marks indexes blocks out : List ℕ) (a : TicketBlocks) (n : BlocksNumbers) (blocks′ out′ : List ℕ)
-    → ticketWrittenBy a blocks′ ≡ ticketWritten R S bytes ends marks indexes blocks
+pub exported-written : (R S : ℕ) (bytes ends marks indexes blocks out : List ℕ) (a : TicketBlocks) (n : BlocksNumbers)
+    (blocks′ out′ : List ℕ)
+    → ticketWrittenBy a blocks′ ≡ ticketWritten R S (lentOf bytes ends marks indexes) blocks
     → n ≡ blocksNumbers a
     → out′ ≡ withFirst (n .blocks) out
     → (n .number, blocks′, out′) ≡ exportedWriteTicket R S bytes ends marks indexes blocks out
@@ -60,26 +63,28 @@ pub read-left : (out : List ℕ) (n : ReadNumbers) → length out < 4 → out �
 unfolding withRead
 read-left out n h = rw (lt-leb 4 (length out) h)
 
-same-read : (a : TicketProof) (bytes ends marks indexes : List ℕ) → readNumbers a ≡ inReadNumbers (ticketReadBy a bytes ends marks indexes)
+same-read : (a : TicketProof) (bytes ends marks indexes : List ℕ)
+    → readNumbers a ≡ inReadNumbers (ticketReadBy a (lentOf bytes ends marks indexes))
 same-read (proofAnswer.Read R S count len) bytes ends marks indexes = refl
 same-read (proofAnswer.Refused k) bytes ends marks indexes = refl
 
 same-list : (a : TicketProof) (bytes ends marks indexes : List ℕ)
-    → (bytes ≡ ticketReadBy a bytes ends marks indexes .bytes)
-    × (ends ≡ ticketReadBy a bytes ends marks indexes .ends)
-    × (marks ≡ ticketReadBy a bytes ends marks indexes .marks)
-    × (indexes ≡ ticketReadBy a bytes ends marks indexes .indexes)
+    → (bytes ≡ ticketReadBy a (lentOf bytes ends marks indexes) .bytes)
+    × (ends ≡ ticketReadBy a (lentOf bytes ends marks indexes) .ends)
+    × (marks ≡ ticketReadBy a (lentOf bytes ends marks indexes) .marks)
+    × (indexes ≡ ticketReadBy a (lentOf bytes ends marks indexes) .indexes)
 same-list (proofAnswer.Read R S count len) bytes ends marks indexes = (refl, refl, refl, refl)
 same-list (proofAnswer.Refused k) bytes ends marks indexes = (refl, refl, refl, refl)
 
-pub exported-read : (t bytes ends marks indexes out : List ℕ) (a : TicketProof) (n : ReadNumbers) (bytes′ ends′ marks′ indexes′ out′ : List ℕ)
-    → ticketReadBy a bytes′ ends′ marks′ indexes′ ≡ ticketRead t bytes ends marks indexes
+pub exported-read : (t bytes ends marks indexes out : List ℕ) (a : TicketProof) (n : ReadNumbers)
+    (bytes′ ends′ marks′ indexes′ out′ : List ℕ)
+    → ticketReadBy a (lentOf bytes′ ends′ marks′ indexes′) ≡ ticketRead t (lentOf bytes ends marks indexes)
     → n ≡ readNumbers a
     → out′ ≡ withRead n out
     → (n .number, bytes′, ends′, marks′, indexes′, out′) ≡ exportedReadTicket t bytes ends marks indexes out
 unfolding exportedReadTicket
 exported-read t bytes ends marks indexes out a n bytes′ ends′ marks′ indexes′ out′ e en eo =
-    let r = ticketReadBy a bytes′ ends′ marks′ indexes′ in
+    let r = ticketReadBy a (lentOf bytes′ ends′ marks′ indexes′) in
     let m : n ≡ inReadNumbers r = en ∙ same-read a bytes′ ends′ marks′ indexes′ in
     let k = same-list a bytes′ ends′ marks′ indexes′ in
     let here : _≡_ {A = ℕ × List ℕ × List ℕ × List ℕ × List ℕ × List ℕ}

@@ -7,6 +7,7 @@ use lib.Dec.{eqb, leb}
 use lib.Ieee.{Float}
 use lib.ListN.{length, drop}
 use Rattle.sampling.specs.Hash.{hashed}
+use Rattle.centralized_telescope.specs.Elements.{lentOf}
 use Rattle.centralized_telescope.specs.Distinct.{distinct}
 use Rattle.centralized_telescope.specs.Params.{smallCase}
 use Rattle.centralized_telescope.specs.Plan.{planned, plannedBy}
@@ -51,7 +52,9 @@ said (suc k) r = suc k
 
 -- distinctness: of data, ends, marks and indexes
 unfoldable pub exportedDistinct : List ℕ → List ℕ → List ℕ → List ℕ → ℕ
-exportedDistinct bytes ends marks indexes = said (distinct bytes ends marks indexes .0) (distinct bytes ends marks indexes .1)
+exportedDistinct bytes ends marks indexes =
+    let r : ℕ × Bool = distinct (lentOf bytes ends marks indexes) in
+    said (r .0) (r .1)
 
 -- ---- the prover
 
@@ -73,7 +76,7 @@ withCounters n out = cond (leb 3 (length out)) (n .retry ∷ n .search ∷ n .co
 -- the number, and places, bin table and the lent numbers afterwards
 unfoldable pub exportedProve : Params → List ℕ → List ℕ → List ℕ → List ℕ → List ℕ → List ℕ → List ℕ → ℕ × List ℕ × List ℕ × List ℕ
 exportedProve p bytes ends marks indexes places table out =
-    let r : Proved = proved p bytes ends marks indexes places table in
+    let r : Proved = proved p (lentOf bytes ends marks indexes) places table in
     (r .number, r .places, r .table, withCounters (inNumbers r) out)
 
 -- ---- tickets
@@ -92,7 +95,7 @@ withFirst v out = cond (leb 1 (length out)) (v ∷ drop 1 out) out
 -- the number, and the lent blocks and numbers afterwards
 unfoldable pub exportedWriteTicket : ℕ → ℕ → List ℕ → List ℕ → List ℕ → List ℕ → List ℕ → List ℕ → ℕ × List ℕ × List ℕ
 exportedWriteTicket R S bytes ends marks indexes blocks out =
-    let r : TicketWritten = ticketWritten R S bytes ends marks indexes blocks in
+    let r : TicketWritten = ticketWritten R S (lentOf bytes ends marks indexes) blocks in
     (r .number, r .buffer, withFirst (r .count) out)
 
 -- the numbers of the reader's answer
@@ -100,7 +103,7 @@ abbrev pub inReadNumbers : TicketRead → ReadNumbers
 inReadNumbers r = record { number = r .number; retry = r .retry; search = r .search; count = r .count; len = r .len }
 
 abbrev pub readNumbers : TicketProof → ReadNumbers
-readNumbers a = inReadNumbers (ticketReadBy a [] [] [] [])
+readNumbers a = inReadNumbers (ticketReadBy a (lentOf [] [] [] []))
 
 -- R, S, the number of elements and that of data bytes in the first four lent numbers, where there are as many
 unfoldable pub withRead : ReadNumbers → List ℕ → List ℕ
@@ -109,7 +112,7 @@ withRead n out = cond (leb 4 (length out)) (n .retry ∷ n .search ∷ n .count 
 -- the number, and the lent list and numbers afterwards
 unfoldable pub exportedReadTicket : List ℕ → List ℕ → List ℕ → List ℕ → List ℕ → List ℕ → ℕ × List ℕ × List ℕ × List ℕ × List ℕ × List ℕ
 exportedReadTicket t bytes ends marks indexes out =
-    let r : TicketRead = ticketRead t bytes ends marks indexes in
+    let r : TicketRead = ticketRead t (lentOf bytes ends marks indexes) in
     (r .number, r .bytes, r .ends, r .marks, r .indexes, withRead (inReadNumbers r) out)
 
 -- ---- planning

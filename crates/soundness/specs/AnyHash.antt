@@ -11,7 +11,7 @@ use Rattle.sampling.specs.declared.sample.U128.{U128}
 use Rattle.centralized_telescope.specs.declared.params.Params.{Params}
 use Rattle.centralized_telescope.specs.Lists.{firstNumber}
 use Rattle.centralized_telescope.specs.Params.{checked}
-use Rattle.centralized_telescope.specs.Elements.{Element, tail, elements, listCheck}
+use Rattle.centralized_telescope.specs.Elements.{Element, tail, Lent, elements, listCheck}
 use Rattle.centralized_telescope.specs.Rounds.{roundLabel, binLabel, proofLabel, drawnBelow, roundId}
 use Rattle.centralized_telescope.specs.Verifier.{ifSome, isBin, countersOut}
 
@@ -60,6 +60,5 @@ module _ (hash : List ℕ → List ℕ) where
   judgedWith p R S es =
       cond (eqb (length es) (p .«proof_size»)) (cond (countersOut p R S) 21 (cond (yesWith (p .x) (lastWith p R S es)) 0 22)) 20
 
-  unfoldable pub verdictWith : Params → ℕ → ℕ → List ℕ → List ℕ → List ℕ → List ℕ → ℕ
-  verdictWith p R S bytes ends marks indexes =
-      firstNumber (checked p ∷ listCheck bytes ends marks indexes ∷ judgedWith p R S (elements bytes ends marks indexes) ∷ [])
+  unfoldable pub verdictWith : Params → ℕ → ℕ → Lent → ℕ
+  verdictWith p R S lent = firstNumber (checked p ∷ listCheck lent ∷ judgedWith p R S (elements lent) ∷ [])

@@ -12,7 +12,7 @@ use Rattle.centralized_telescope.specs.declared.params.Params.{Params}
 use Rattle.centralized_telescope.specs.declared.params.SmallSettings.{SmallSettings}
 use Rattle.centralized_telescope.specs.Lists.{Each}
 use Rattle.centralized_telescope.specs.Params.{ceil, probability, smallCase}
-use Rattle.centralized_telescope.specs.Elements.{Element, tail, elements}
+use Rattle.centralized_telescope.specs.Elements.{Element, tail, Lent, lentOf, elements}
 use Rattle.centralized_telescope.specs.Verifier.{verdict}
 use Rattle.centralized_telescope.specs.ProofSize.{Meets, InRange, SizeIs}
 use Rattle.soundness.specs.AnyHash.{verdictWith}
@@ -24,24 +24,19 @@ use Rattle.soundness.specs.Functions.{OfBytes, howManyStrings, howManyDi
 abbrev pub IsElement : Element → Type 0
 IsElement e = OfBytes (e .bytes) × (length (e .bytes) ≤ 4096)
 
--- what is sent to the verifier: R, S and the lent list
+-- what is sent to the verifier: R, S and a list
 pub record Sent : Type 0 where
   pub retry : ℕ
   pub search : ℕ
-  pub bytes : List ℕ
-  pub ends : List ℕ
-  pub marks : List ℕ
-  pub indexes : List ℕ
+  pub lent : Lent
 
 -- each element sent has the Tail of one of E
 abbrev pub MadeOf : List Element → Sent → Type 0
-MadeOf E sent =
-    Each (λ (e : Element). List·Memᴰ (tail e) (map tail E)) (elements (sent .bytes) (sent .ends) (sent .marks) (sent .indexes))
+MadeOf E sent = Each (λ (e : Element). List·Memᴰ (tail e) (map tail E)) (elements (sent .lent))
 
 -- the verifier accepts it, with this function in SHA-256's place
 abbrev pub accepts : (List ℕ → List ℕ) → Params → Sent → Bool
-accepts hash p sent =
-    eqb (verdictWith hash p (sent .retry) (sent .search) (sent .bytes) (sent .ends) (sent .marks) (sent .indexes)) 0
+accepts hash p sent = eqb (verdictWith hash p (sent .retry) (sent .search) (sent .lent)) 0
 
 -- ---- how often
 
@@ -107,8 +102,7 @@ pub record SeldomGreen : Type 0 where
   pub up-to-207 : seldomBy 207 1
   pub up-to-204 : seldomBy 204 2
   -- and with SHA-256 the verifier is that of `centralized_telescope`
-  pub ours : (p : Params) (R S : ℕ) (bytes ends marks indexes : List ℕ)
-      → verdictWith sha256 p R S bytes ends marks indexes ≡ verdict p R S bytes ends marks indexes
+  pub ours : (p : Params) (R S : ℕ) (lent : Lent) → verdictWith sha256 p R S lent ≡ verdict p R S lent
 
 -- ---- that the premise is what the calls make, and that there are proofs
 
@@ -142,7 +136,7 @@ exampleSettings = record {
 
 -- R = 0, S = 0 and one element without data or index
 abbrev pub exampleSent : Sent
-exampleSent = record { retry = 0; search = 0; bytes = []; ends = 0 ∷ []; marks = 0 ∷ []; indexes = 0 ∷ [] }
+exampleSent = record { retry = 0; search = 0; lent = lentOf [] (0 ∷ []) (0 ∷ []) (0 ∷ []) }
 
 -- they are made from these figures, and under one function, all of whose digests are zeros, a proof is green
 abbrev pub greenExample : Type 0

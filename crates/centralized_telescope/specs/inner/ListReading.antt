@@ -5,7 +5,12 @@ use mathlib.Core.Option.{Option}
 use Prim.Native.Nat.{ℕ, _-_}
 use lib.Dec.{ltb, eqb}
 use lib.ListN.{take, drop, getD}
-use Rattle.centralized_telescope.specs.Elements.{Element, indexOf}
+use denote.Ref.{RefT, now}
+use Rattle.centralized_telescope.specs.Elements.{Element, Lent, lentOf, indexOf}
+
+-- the list that four slices hold, where an inner contract asks
+abbrev pub lentNow : RefT (List ℕ) → RefT (List ℕ) → RefT (List ℕ) → RefT (List ℕ) → Lent
+lentNow bytes ends marks indexes = lentOf (now bytes) (now ends) (now marks) (now indexes)
 
 -- ---- one place
 
@@ -22,8 +27,8 @@ abbrev pub indexAt : List ℕ → List ℕ → ℕ → Option ℕ
 indexAt marks indexes place = indexOf (getD marks place 0) (getD indexes place 0)
 
 -- an element by what is lent of it: its data bytes, its mark and its index
-abbrev pub lent : List ℕ → ℕ → ℕ → Element
-lent own mark n = record { bytes = own; index = indexOf mark n }
+abbrev pub elementOf : List ℕ → ℕ → ℕ → Element
+elementOf own mark n = record { bytes = own; index = indexOf mark n }
 
 -- ---- some places
 

@@ -7,7 +7,6 @@ use lib.Dec.{leb, ltb}
 use lib.ListN.{length, drop, getD}
 use Rattle.sampling.specs.BigEndian.{bigEndian}
 use Rattle.centralized_telescope.specs.Lists.{someOf}
-use Rattle.centralized_telescope.specs.ProofList.{ProofList}
 use Rattle.centralized_telescope.specs.Blocks.{bodiesOf}
 use Rattle.centralized_telescope.specs.Tickets.{countIn, isTicket, elementsPart}
 use Rattle.centralized_telescope.specs.declared.ticket.Head.{Head}
@@ -31,7 +30,8 @@ sizeIn s = bigEndian 4 (drop (1 + 8 * markIn s) s)
 
 unfoldable pub laidOut : List ℕ → Bool
 laidOut s =
-    leb 5 (length s) && (leb (markIn s) 1 && (leb (headSize s) (length s) && (leb (sizeIn s) 4096 && leb (headSize s + sizeIn s) (length s))))
+    leb 5 (length s)
+    && (leb (markIn s) 1 && (leb (headSize s) (length s) && (leb (sizeIn s) 4096 && leb (headSize s + sizeIn s) (length s))))
 
 pub record HeadIs (h : HeadRead) (s : List ℕ) : Type 0 where
   pub laid : laidOut s ≡ true
@@ -85,8 +85,3 @@ pub record FoundIs (count size : ℕ) (t : List ℕ) : Type 0 where
 abbrev pub FoundSays : Found → List ℕ → Type 0
 FoundSays (found.Elements count size) t = FoundIs count size t
 FoundSays found.NoTicket t = isTicket t ≡ false
-
--- ---- elements read into four buffers: how many data bytes they took, and the buffers
-
-abbrev pub listed : ℕ → List ℕ → List ℕ → List ℕ → List ℕ → ProofList
-listed len bytes ends marks indexes = record { number = 0; len = len; bytes = bytes; ends = ends; marks = marks; indexes = indexes }

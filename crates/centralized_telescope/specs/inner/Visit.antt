@@ -3,7 +3,7 @@
 use mathlib.Core.Path.{_≡_}
 use mathlib.Core.Bool.{cond}
 use mathlib.Core.List.{List, _++_}
-use Prim.Native.Nat.{ℕ, _+_, _-_, _≤_}
+use Prim.Native.Nat.{ℕ, _+_, _-_, _≤_, _<_}
 use lib.Dec.{ltb}
 use lib.ListN.{getD}
 use Rattle.centralized_telescope.specs.declared.params.Params.{Params}
@@ -12,7 +12,7 @@ use Rattle.centralized_telescope.specs.declared.proof.Outcome.the-varian
 use Rattle.centralized_telescope.specs.declared.proof.Attempt.{Attempt}
 use Rattle.centralized_telescope.specs.declared.proof.Attempt.the-variants as attempt
 use Rattle.centralized_telescope.specs.Params.{checked}
-use Rattle.centralized_telescope.specs.Elements.{elements, listCheck}
+use Rattle.centralized_telescope.specs.Elements.{elements, listCheck, Lent}
 use Rattle.centralized_telescope.specs.Lists.{over}
 use Rattle.centralized_telescope.specs.Bins.{tableOf}
 use Rattle.centralized_telescope.specs.Chains.{Try, tryOf, Chain}
@@ -20,8 +20,8 @@ use Rattle.centralized_telescope.specs.Search.{binsOf, along, chains, ch
 use Rattle.centralized_telescope.specs.inner.Walk.{Ended, found, missing, walk}
 
 -- the try of a retry counter on a lent list
-abbrev pub tryOn : Params → List ℕ → List ℕ → List ℕ → List ℕ → ℕ → Try
-tryOn p bytes ends marks indexes R = tryOf p (elements bytes ends marks indexes) R
+abbrev pub tryOn : Params → Lent → ℕ → Try
+tryOn p lent R = tryOf p (elements lent) R
 
 -- ---- the walk of some of a try's chains, after `count` steps
 
@@ -59,11 +59,11 @@ writtenFrom p depth r places = cond (ltb depth (p .«proof_size»)) (written r p
 
 -- ---- what the search is given: settings that pass the check, an accepted list, the try's bin table, and room
 
-pub record Ready (p : Params) (bytes ends marks indexes : List ℕ) (R : ℕ) (table : List ℕ) (room : ℕ) : Type 0 where
+pub record Ready (p : Params) (lent : Lent) (R : ℕ) (table : List ℕ) (room : ℕ) : Type 0 where
   pub settings : checked p ≡ 0
-  pub list : listCheck bytes ends marks indexes ≡ 0
+  pub list : listCheck lent ≡ 0
   pub rest : List ℕ
-  pub table-is : table ≡ tableOf (p .«set_size») (binsOf (tryOn p bytes ends marks indexes R)) ++ rest
+  pub table-is : table ≡ tableOf (p .«set_size») (binsOf (tryOn p lent R)) ++ rest
   pub roomy : p .«proof_size» ≤ room
 
 -- a part of the table within its places
@@ -71,3 +71,25 @@ pub record Span (p : Params) (table : List ℕ) (from to : ℕ) : Type 0 where
   pub low : p .«set_size» + 1 ≤ from
   pub order : from ≤ to
   pub high : to ≤ p .«set_size» + 1 + getD table (p .«set_size») 0
+
+-- ---- what the code promises of a walk: its answer, and the lent places afterwards
+
+abbrev pub WalkEnds : Ended Chain → Outcome → List ℕ → List ℕ → Type 0
+WalkEnds w r places after = (r ≡ outcomeOf w) × (after ≡ written w places)
+
+abbrev pub VisitEnds : Params → ℕ → Ended Chain → Outcome → List ℕ → List ℕ → Type 0
+VisitEnds p depth w r places after = (r ≡ outcomeOf w) × (after ≡ writtenFrom p depth w places)
+
+-- ---- and what it asks
+
+pub record CanVisit (p : Params) (lent : Lent) (R : ℕ) (table : List ℕ) (room id depth steps : ℕ) : Type 0 where
+  pub ready : Ready p lent R table room
+  pub bin : id < p .«set_size»
+  pub deep : depth ≤ p .«proof_size»
+  pub within : steps < p .«dfs_bound»
+
+pub record CanWalk (p : Params) (lent : Lent) (R : ℕ) (table : List ℕ) (room from to depth steps : ℕ) : Type 0 where
+  pub ready : Ready p lent R table room
+  pub span : Span p table from to
+  pub deep : depth < p .«proof_size»
+  pub within : steps ≤ p .«dfs_bound»

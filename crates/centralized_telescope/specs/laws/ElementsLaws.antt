@@ -11,8 +11,9 @@ use lib.ListN.{length, take, drop, getD, length-take}
 use lib.Seq.{getD-take}
 use Rattle.sampling.specs.laws.BigEndianLaws.{length-bytesOf}
 use Rattle.centralized_telescope.specs.laws.TestLaws.{neither}
-use Rattle.centralized_telescope.specs.Elements.{Element, markOf, numberOf, indexBytes, indexOf, elementsFrom, elements, elementAt, markOver, endWrong, malformed, dataLong, tooLarge, listCheck}
-use Rattle.centralized_telescope.specs.inner.ListReading.{startAt, dataAt, indexAt, lent}
+use Rattle.centralized_telescope.specs.Elements.{Element, markOf, numberOf, indexBytes, indexOf, elementsFrom, elements, elementAt}
+use Rattle.centralized_telescope.specs.Elements.{markOver, endWrong, malformed, dataLong, tooLarge, listCheck, Lent}
+use Rattle.centralized_telescope.specs.inner.ListReading.{startAt, dataAt, indexAt, elementOf}
 
 -- ---- what the check of a list says of the whole of it
 
@@ -23,27 +24,28 @@ unrefused false true e = absurd (omega arith)
 unrefused false false e = (refl, refl)
 
 -- the check's number is one of the table's
-pub check-range : (d n m x : List ℕ) → listCheck d n m x < 6
+pub check-range : (lent : Lent) → listCheck lent < 6
 unfolding listCheck
-check-range d n m x = go (malformed d n m x) (tooLarge n)
+check-range lent = go (malformed lent) (tooLarge (lent .ends))
   where
     go : (a b : Bool) → cond a 4 (cond b 5 0) < 6
     go true b = omega arith
     go false true = omega arith
     go false false = omega arith
 
-pub record NoFault (d n m x : List ℕ) : Type 0 where
-  pub marks : length n ≡ length m
-  pub indexes : length n ≡ length x
-  pub marked : markOver m ≡ false
-  pub rising : endWrong 0 (length d) n ≡ false
-  pub few : length n ≤ 65536
-  pub short : dataLong 0 n ≡ false
+pub record NoFault (lent : Lent) : Type 0 where
+  pub marks : length (lent .ends) ≡ length (lent .marks)
+  pub indexes : length (lent .ends) ≡ length (lent .indexes)
+  pub marked : markOver (lent .marks) ≡ false
+  pub rising : endWrong 0 (length (lent .bytes)) (lent .ends) ≡ false
+  pub few : length (lent .ends) ≤ 65536
+  pub short : dataLong 0 (lent .ends) ≡ false
 
-pub accepted : (d n m x : List ℕ) → listCheck d n m x ≡ 0 → NoFault d n m x
+pub accepted : (lent : Lent) → listCheck lent ≡ 0 → NoFault lent
 unfolding listCheck malformed tooLarge
-accepted d n m x e =
-    let r = unrefused (malformed d n m x) (tooLarge n) e in
+accepted lent e =
+    let record { bytes = d; ends = n; marks = m; indexes = x } = lent in
+    let r = unrefused (malformed lent) (tooLarge n) e in
     let lengths = neither (not (eqb (length n) (length m))) (r .0) in
     let others = neither (not (eqb (length n) (length x))) (lengths .1) in
     let faults = neither (markOver m) (others .1) in
@@ -78,7 +80,8 @@ size-at from (k ∷ n) (suc i) h e = size-at k n i (omega arith) (neither (ltb 4
 -- ---- what the list means
 
 -- an element is its data and its index
-pub same-parts : {a b : List ℕ} {i j : Option ℕ} → a ≡ b → i ≡ j → _≡_ {A = Element} (record { bytes = a; index = i }) (record { bytes = b; index = j })
+pub same-parts : {a b : List ℕ} {i j : Option ℕ} → a ≡ b → i ≡ j
+    → _≡_ {A = Element} (record { bytes = a; index = i }) (record { bytes = b; index = j })
 same-parts p q = rw (p, q)
 
 length-from : (from : ℕ) (d n m x : List ℕ) → length n ≡ length m → length n ≡ length x → length (elementsFrom from d n m x) ≡ length n
@@ -121,43 +124,47 @@ module _ (d n : List ℕ) (W : endWrong 0 (length d) n ≡ false) (i : ℕ) (h :
   pub end-within : getD n i 0 ≤ length d
   end-within = end-at 0 (length d) n i h W .1
 
-module _ (d n m x : List ℕ) (A : listCheck d n m x ≡ 0) where
+module _ (lent : Lent) (A : listCheck lent ≡ 0) where
+  open Lent lent using (bytes as d, ends as n, marks as m, indexes as x)
+
   pub same-marks : length n ≡ length m
-  same-marks = accepted d n m x A .marks
+  same-marks = accepted lent A .marks
 
   pub same-indexes : length n ≡ length x
-  same-indexes = accepted d n m x A .indexes
+  same-indexes = accepted lent A .indexes
 
   pub few-elements : length n ≤ 65536
-  few-elements = accepted d n m x A .few
+  few-elements = accepted lent A .few
 
   pub ends-right : endWrong 0 (length d) n ≡ false
-  ends-right = accepted d n m x A .rising
+  ends-right = accepted lent A .rising
 
-  pub length-elements : length (elements d n m x) ≡ length n
+  pub length-elements : length (elements lent) ≡ length n
   length-elements = length-from 0 d n m x same-marks same-indexes
 
   module _ (i : ℕ) (h : i < length n) where
     pub size-within : getD n i 0 - startAt n i ≤ 4096
     unfolding startAt
-    size-within = size-at 0 n i h (accepted d n m x A .short)
+    size-within = size-at 0 n i h (accepted lent A .short)
 
     -- the element there, as the code reads it
-    pub element-there : elementAt (elements d n m x) i ≡ record { bytes = dataAt d n i; index = indexAt m x i }
+    pub element-there : elementAt (elements lent) i ≡ record { bytes = dataAt d n i; index = indexAt m x i }
     unfolding dataAt startAt
     element-there = element-from 0 d n m x i h same-marks same-indexes
 
-    pub data-there : elementAt (elements d n m x) i .bytes ≡ dataAt d n i
+    pub data-there : elementAt (elements lent) i .bytes ≡ dataAt d n i
     data-there = ap (λ (e : Element). e .bytes) element-there
 
-    pub index-there : elementAt (elements d n m x) i .index ≡ indexAt m x i
+    pub index-there : elementAt (elements lent) i .index ≡ indexAt m x i
     index-there = ap (λ (e : Element). e .index) element-there
 
     -- and by its parts, as they are lent or as `index_of` reads them
-    pub lent-there : (own : List ℕ) (k v : ℕ) → own ≡ dataAt d n i → k ≡ getD m i 0 → v ≡ getD x i 0 → lent own k v ≡ elementAt (elements d n m x) i
+    pub lent-there : (own : List ℕ) (k v : ℕ) → own ≡ dataAt d n i → k ≡ getD m i 0 → v ≡ getD x i 0
+        → elementOf own k v ≡ elementAt (elements lent) i
     lent-there own k v o a b = same-parts o (rw (a, b)) ∙ sym element-there
 
-    pub read-there : (own : List ℕ) (k v : ℕ) → own ≡ dataAt d n i → (k ≡ markOf (indexAt m x i)) × (v ≡ numberOf (indexAt m x i)) → lent own k v ≡ elementAt (elements d n m x) i
+    pub read-there : (own : List ℕ) (k v : ℕ) → own ≡ dataAt d n i → (k ≡ markOf (indexAt m x i)) × (v ≡ numberOf (indexAt m x i))
+        → elementOf own k v ≡ elementAt (elements lent) i
     read-there own k v o e = same-parts o (rw (e .0, e .1) (index-again (indexAt m x i))) ∙ sym element-there
 
     pub place-within : (i < length m) × (i < length x)
@@ -170,7 +177,7 @@ module _ (d n m x : List ℕ) (A : listCheck d n m x ≡ 0) where
     pub own-short : (own : List ℕ) → own ≡ dataAt d n i → length own ≤ 4096
     own-short own o = rw o data-short
 
-    pub bytes-short : length (elementAt (elements d n m x) i .bytes) ≤ 4096
+    pub bytes-short : length (elementAt (elements lent) i .bytes) ≤ 4096
     bytes-short = rw data-there data-short
 
 -- ---- the first k elements of a list: a place among them means the same element in both

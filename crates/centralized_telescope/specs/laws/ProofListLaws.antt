@@ -10,11 +10,13 @@ use lib.Dec.{ltb, leb, eqb}
 use lib.ListN.{length, take, drop, getD, length-append, length-map}
 use lib.Seq.{take-at, drop-at}
 use Rattle.centralized_telescope.specs.laws.TestLaws.{neither, unsaid}
-use Rattle.centralized_telescope.specs.Elements.{Element, elementsFrom, elements, elementAt, markOf, numberOf, markOver, endWrong, malformed, dataLong, tooLarge, listCheck}
+use Rattle.centralized_telescope.specs.Elements.{Element, elementsFrom, elements, elementAt, markOf, numberOf, markOver, endWrong}
+use Rattle.centralized_telescope.specs.Elements.{malformed, dataLong, tooLarge, listCheck, Lent, lentOf}
 use Rattle.centralized_telescope.specs.laws.ElementsLaws.{index-again, data-there, bytes-short}
 use Rattle.centralized_telescope.specs.Lists.{Each, someOf}
 use Rattle.centralized_telescope.specs.laws.ListsLaws.{take-over, none-at, each-nil, each-cons, number-none}
-use Rattle.centralized_telescope.specs.ProofList.{joined, endsFrom, marksOf, indexesOf, chosen, placeOut, ProofList, listOver, writeRefusal, proofList}
+use Rattle.centralized_telescope.specs.ProofList.{joined, endsFrom, marksOf, indexesOf, chosen, placeOut, ProofList, listOver}
+use Rattle.centralized_telescope.specs.ProofList.{writeRefusal, proofList}
 use Rattle.centralized_telescope.specs.inner.ListReading.{dataOf}
 
 -- ---- a list written out is accepted
@@ -51,7 +53,8 @@ none-long from [] s = refl
 none-long from (e ∷ es) s =
     rw (le-ltb 4096 (from + length (e .bytes) - from) (omega (arith, s .0))) (none-long (from + length (e .bytes)) es (s .1))
 
-pub accepted-again : (es : List Element) → length es ≤ 65536 → Each Short es → listCheck (joined es) (endsFrom 0 es) (marksOf es) (indexesOf es) ≡ 0
+pub accepted-again : (es : List Element) → length es ≤ 65536 → Each Short es
+    → listCheck (lentOf (joined es) (endsFrom 0 es) (marksOf es) (indexesOf es)) ≡ 0
 unfolding listCheck malformed tooLarge
 accepted-again es few s =
     let N = length-ends 0 es in
@@ -68,8 +71,10 @@ accepted-again es few s =
 
 -- ---- and means the same elements
 
-own-bytes : (before own rest : List ℕ) → take (length before + length own - length before) (drop (length before) (before ++ (own ++ rest))) ≡ own
-own-bytes before own rest = rw (drop-at before (own ++ rest) (length before) refl) (take-at own rest (length before + length own - length before) (omega arith))
+own-bytes : (before own rest : List ℕ)
+    → take (length before + length own - length before) (drop (length before) (before ++ (own ++ rest))) ≡ own
+own-bytes before own rest =
+    rw (drop-at before (own ++ rest) (length before) refl) (take-at own rest (length before + length own - length before) (omega arith))
 
 elements-from : (before : List ℕ) (es : List Element)
     → elementsFrom (length before) (before ++ joined es) (endsFrom (length before) es) (marksOf es) (indexesOf es) ≡ es
@@ -77,14 +82,16 @@ unfolding elementsFrom endsFrom joined
 elements-from before [] = refl
 elements-from before (e ∷ es) =
     ap {B = List Element}
-    (λ (k : Element). k ∷ elementsFrom (length before + length (e .bytes)) (before ++ (e .bytes ++ joined es)) (endsFrom (length before + length (e .bytes)) es) (marksOf es) (indexesOf es))
+    (λ (k : Element). k ∷ elementsFrom (length before + length (e .bytes)) (before ++ (e .bytes ++ joined es))
+    (endsFrom (length before + length (e .bytes)) es) (marksOf es) (indexesOf es))
     (first (own-bytes before (e .bytes) (joined es)) (index-again (e .index)))
-    ∙ ap (λ (l : List Element). e ∷ l) (rw (← append-assoc before (e .bytes) (joined es), ← length-append before (e .bytes)) (elements-from (before ++ e .bytes) es))
+    ∙ ap (λ (l : List Element). e ∷ l)
+    (rw (← append-assoc before (e .bytes) (joined es), ← length-append before (e .bytes)) (elements-from (before ++ e .bytes) es))
   where
     first : {b : List ℕ} {o : Option ℕ} → b ≡ e .bytes → o ≡ e .index → _≡_ {A = Element} (record { bytes = b; index = o }) e
     first B I = rw (B, I)
 
-pub elements-again : (es : List Element) → elements (joined es) (endsFrom 0 es) (marksOf es) (indexesOf es) ≡ es
+pub elements-again : (es : List Element) → elements (lentOf (joined es) (endsFrom 0 es) (marksOf es) (indexesOf es)) ≡ es
 elements-again es = elements-from [] es
 
 -- ---- the elements at some places of an accepted list
@@ -95,47 +102,54 @@ place-head len place e = let h = neither (leb len place) e in (leb-false len pla
 pub place-within : (len : ℕ) (places : List ℕ) (i : ℕ) → i < length places → placeOut len places ≡ false → getD places i 0 < len
 place-within len places i h e = leb-false len (getD places i 0) (none-at (leb len) places i 0 h e)
 
-module _ (d n m x : List ℕ) (A : listCheck d n m x ≡ 0) where
-  pub chosen-short : (places : List ℕ) → placeOut (length n) places ≡ false → Each Short (chosen places d n m x)
+module _ (lent : Lent) (A : listCheck lent ≡ 0) where
+  open Lent lent using (bytes as d, ends as n)
+
+  pub chosen-short : (places : List ℕ) → placeOut (length n) places ≡ false → Each Short (chosen places lent)
   unfolding someOf
   chosen-short [] e = each-nil Short
   chosen-short (place ∷ places) e =
       let p = place-head (length n) place e in
-      each-cons Short (elementAt (elements d n m x) place) (chosen places d n m x) (bytes-short d n m x A place (p .0)) (chosen-short places (p .1))
+      each-cons Short (elementAt (elements lent) place) (chosen places lent) (bytes-short lent A place (p .0)) (chosen-short places (p .1))
 
-  pub data-joined : (places : List ℕ) → placeOut (length n) places ≡ false → dataOf d n places ≡ joined (chosen places d n m x)
+  pub data-joined : (places : List ℕ) → placeOut (length n) places ≡ false → dataOf d n places ≡ joined (chosen places lent)
   unfolding someOf dataOf joined
   data-joined [] e = refl
   data-joined (place ∷ places) e =
       let p = place-head (length n) place e in
-      rw (data-there d n m x A place (p .0), data-joined places (p .1))
+      rw (data-there lent A place (p .0), data-joined places (p .1))
 
 -- ---- what `write_proof` writes
 
-module _ (places d n m x b′ n′ m′ x′ : List ℕ) where
+module _ (places : List ℕ) (lent : Lent) (buffers : Lent) where
+  open Lent buffers using (bytes as b′, ends as n′, marks as m′, indexes as x′)
+  open Lent lent using (ends as n)
+
   abbrev r : ProofList
-  r = proofList places d n m x b′ n′ m′ x′
+  r = proofList places lent buffers
 
   abbrev es : List Element
-  es = chosen places d n m x
+  es = chosen places lent
 
-  number-refusal : r .number ≡ 0 → writeRefusal places d n m x b′ n′ m′ x′ ≡ 0
+  number-refusal : r .number ≡ 0 → writeRefusal places lent buffers ≡ 0
   unfolding proofList listOver
   number-refusal = go (eqb refusal 0) refl
     where
       refusal : ℕ
-      refusal = writeRefusal places d n m x b′ n′ m′ x′
+      refusal = writeRefusal places lent buffers
 
-      go : (t : Bool) → eqb refusal 0 ≡ t → cond t (listOver (chosen places d n m x) b′ n′ m′ x′) (record { number = refusal; len = 0; bytes = b′; ends = n′; marks = m′; indexes = x′ }) .number ≡ 0 → refusal ≡ 0
+      go : (t : Bool) → eqb refusal 0 ≡ t
+          → cond t (listOver (chosen places lent) buffers)
+          (record { number = refusal; len = 0; bytes = b′; ends = n′; marks = m′; indexes = x′ }) .number ≡ 0 → refusal ≡ 0
       go true e h = eqb-true refusal 0 e
       go false e h = h
 
   module _ (W : r .number ≡ 0) where
-    is-written : r ≡ listOver (chosen places d n m x) b′ n′ m′ x′
+    is-written : r ≡ listOver (chosen places lent) buffers
     unfolding proofList
-    is-written = rw (eq-eqb (writeRefusal places d n m x b′ n′ m′ x′) 0 (number-refusal W))
+    is-written = rw (eq-eqb (writeRefusal places lent buffers) 0 (number-refusal W))
 
-    refusals : (listCheck d n m x ≡ 0) × (length places ≤ 65536) × (placeOut (length n) places ≡ false)
+    refusals : (listCheck lent ≡ 0) × (length places ≤ 65536) × (placeOut (length n) places ≡ false)
     unfolding writeRefusal
     refusals =
         let l = number-none _ _ (number-refusal W) in
@@ -146,10 +160,11 @@ module _ (places d n m x b′ n′ m′ x′ : List ℕ) where
     -- the parts that a caller hands on: so many data bytes, and as many ends, marks and indexes as there are places
     module _ (E : List ℕ → List ℕ → List ℕ → List ℕ → Type 0) where
       parts : E (joined es) (endsFrom 0 es) (marksOf es) (indexesOf es)
-          → E (take (r .len) (r .bytes)) (take (length places) (r .ends)) (take (length places) (r .marks)) (take (length places) (r .indexes))
+          → E (take (r .len) (r .bytes)) (take (length places) (r .ends)) (take (length places) (r .marks))
+          (take (length places) (r .indexes))
       unfolding listOver
       parts h =
-          let K = length-map places (elementAt (elements d n m x)) in
+          let K = length-map places (elementAt (elements lent)) in
           rw (
             is-written,
             take-over (length (joined es)) (joined es) b′ refl,
@@ -158,11 +173,16 @@ module _ (places d n m x b′ n′ m′ x′ : List ℕ) where
             take-over (length places) (indexesOf es) x′ (length-map es (λ (e : Element). numberOf (e .index)) ∙ K),
           ) h
 
-    pub written-accepted : listCheck (take (r .len) (r .bytes)) (take (length places) (r .ends)) (take (length places) (r .marks)) (take (length places) (r .indexes)) ≡ 0
+    pub written-accepted : listCheck
+        (lentOf (take (r .len) (r .bytes)) (take (length places) (r .ends)) (take (length places) (r .marks))
+        (take (length places) (r .indexes))) ≡ 0
     written-accepted =
-        parts (λ (b e k i : List ℕ). listCheck b e k i ≡ 0)
-        (accepted-again es (omega (arith, refusals .1, length-map places (elementAt (elements d n m x)))) (chosen-short d n m x (refusals .0) places (refusals .2)))
+        parts (λ (b e k i : List ℕ). listCheck (lentOf b e k i) ≡ 0)
+        (accepted-again es (omega (arith, refusals .1, length-map places (elementAt (elements lent))))
+        (chosen-short lent (refusals .0) places (refusals .2)))
 
-    pub written-elements : elements (take (r .len) (r .bytes)) (take (length places) (r .ends)) (take (length places) (r .marks)) (take (length places) (r .indexes))
-        ≡ map (elementAt (elements d n m x)) places
-    written-elements = parts (λ (b e k i : List ℕ). elements b e k i ≡ es) (elements-again es)
+    pub written-elements : elements
+        (lentOf (take (r .len) (r .bytes)) (take (length places) (r .ends)) (take (length places) (r .marks))
+        (take (length places) (r .indexes)))
+        ≡ map (elementAt (elements lent)) places
+    written-elements = parts (λ (b e k i : List ℕ). elements (lentOf b e k i) ≡ es) (elements-again es)

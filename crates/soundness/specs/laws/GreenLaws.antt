@@ -233,9 +233,9 @@ module _ (p : Params) (E : List Element) (fine : Each IsElement E) (s : List ℕ
     accepted sent w a =
         let R = sent .retry in
         let S = sent .search in
-        let es = elements (sent .bytes) (sent .ends) (sent .marks) (sent .indexes) in
+        let es = elements (sent .lent) in
         let first = number-none (checked p) _ (eqb-true _ 0 a) in
-        let second = number-none (listCheck (sent .bytes) (sent .ends) (sent .marks) (sent .indexes)) _ (first .1) in
+        let second = number-none (listCheck (sent .lent)) _ (first .1) in
         let j = judged R S es (sym (number-last _) ∙ second .1) in
         let g = passing R S es w (j .says-yes) in
         let below = subst (λ (z : ℕ). areBelow (length E) z (g .0) ≡ true) (j .long) (g .1) in (

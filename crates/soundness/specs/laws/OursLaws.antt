@@ -6,7 +6,7 @@ use mathlib.Core.Option.{Option, none, some}
 use Prim.Native.Nat.{ℕ}
 use Rattle.sampling.specs.Fips180.{sha256}
 use Rattle.centralized_telescope.specs.declared.params.Params.{Params}
-use Rattle.centralized_telescope.specs.Elements.{Element, elements}
+use Rattle.centralized_telescope.specs.Elements.{Element, Lent, elements}
 use Rattle.centralized_telescope.specs.Rounds.{startHash, nextHash, roundId, binOf, saysYes}
 use Rattle.centralized_telescope.specs.Verifier.{ifSome, isBin, follow, lastHash, yesOn, judged, verdict}
 use Rattle.soundness.specs.AnyHash.{followWith, lastWith, yesWith, judgedWith, verdictWith}
@@ -36,9 +36,8 @@ unfolding saysYes
 yes-same p none = refl
 yes-same p (some h) = refl
 
-pub verdict-same : (p : Params) (R S : ℕ) (bytes ends marks indexes : List ℕ)
-    → verdictWith sha256 p R S bytes ends marks indexes ≡ verdict p R S bytes ends marks indexes
+pub verdict-same : (p : Params) (R S : ℕ) (lent : Lent) → verdictWith sha256 p R S lent ≡ verdict p R S lent
 unfolding judgedWith verdictWith judged verdict
-verdict-same p R S bytes ends marks indexes =
-    let es = elements bytes ends marks indexes in
+verdict-same p R S lent =
+    let es = elements lent in
     rw (last-same p R S es, yes-same p (lastHash p R S es))

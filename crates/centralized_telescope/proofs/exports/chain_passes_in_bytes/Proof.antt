@@ -4,12 +4,13 @@ use mathlib.Core.List.{List}
 use Prim.Native.Nat.{_-_, _≤_}
 use native.Mathlib.Omega.{arith}
 use lib.ListN.{length, drop, getD}
-use Rattle.centralized_telescope.specs.Elements.{Element, elements}
-use Rattle.centralized_telescope.specs.Exports.{numbersOf}
-use Rattle.centralized_telescope.specs.inner.ListReading.{startAt}
+use Rattle.centralized_telescope.specs.Elements.{Element, elements, lentOf}
+use Rattle.centralized_telescope.specs.Exports.{numbersOf, numbered}
+use Rattle.centralized_telescope.specs.inner.ListReading.{startAt, lentNow}
 use Rattle.centralized_telescope.specs.Verifier.{lastHash, yesOn}
 use Rattle.centralized_telescope.specs.inner.Following.{followed}
-use Rattle.centralized_telescope.proofs.ExportAnswers.{elements-many, end-within-bytes, index-within-bytes, own-fits, own-few, element-read, next-start}
+use Rattle.centralized_telescope.proofs.ExportAnswers.{elements-many, end-within-bytes, index-within-bytes, own-fits, own-few}
+use Rattle.centralized_telescope.proofs.ExportAnswers.{element-read, next-start}
 use Rattle.centralized_telescope.proofs.ChainFollowed.{chain-lost, one-followed, all-followed}
 use borrow.Author.Needs.{needs}
 use Rattle.centralized_telescope.proofs.exports.chain_passes_in_bytes.Statement.{statement}
@@ -17,8 +18,9 @@ use Rattle.centralized_telescope.proofs.exports.chain_passes_in_bytes.T
 
 abbrev Inv-loop : tie.InvT-loop
 Inv-loop p retry «data» ends marks indexes round₀ start₀ i₀ round start i =
-    let es = elements «data» (numbersOf 4 ends) marks (numbersOf 8 indexes) in
-    (i ≤ length marks) × (start ≡ startAt (numbersOf 4 ends) i) × (followed p (retry .0) round (drop i es) ≡ followed p (retry .0) round₀ es)
+    let es = elements (numbered (lentOf «data» ends marks indexes)) in
+    (i ≤ length marks) × (start ≡ startAt (numbersOf 4 ends) i)
+    × (followed p (retry .0) round (drop i es) ≡ followed p (retry .0) round₀ es)
 
 abbrev μ-loop : tie.MeasureT-loop
 μ-loop p retry «data» ends marks indexes round₀ start₀ i₀ round start i = length marks - i
@@ -31,14 +33,16 @@ abbrev entry : At → tie.Start Inv-loop μ-loop
 entry l = l .before .before .before .before .before .before
 
 abbrev list : At → List Element
-list l = let a = entry l .args in elements (a .«data» .now) (numbersOf 4 (a .ends .now)) (a .marks .now) (numbersOf 8 (a .indexes .now))
+list l = let a = entry l .args in
+    elements (numbered (lentNow a.«data» a.ends a.marks a.indexes))
 
 many : (l : At) → length (list l) ≡ length (entry l .args .marks .now)
 many l = let a = entry l .args in elements-many (a .«data» .now) (a .ends .now) (a .marks .now) (a .indexes .now) (entry l .pre)
 
 -- the chain from the start on is the one from the round reached on, along the elements that are left
 reached : (l : At)
-    → (let a = entry l .args in followed (a .p) (a .retry .0) (l .loop .round) (drop (l .loop .i) (list l)) ≡ lastHash (a .p) (a .retry .0) (a .search .0) (list l))
+    → (let a = entry l .args in
+    followed (a .p) (a .retry .0) (l .loop .round) (drop (l .loop .i) (list l)) ≡ lastHash (a .p) (a .retry .0) (a .search .0) (list l))
 reached l = l .loop .inv .2 ∙ l .before .first-round .ensures (list l)
 
 -- what is read at the place are its end and, from the start on, its data
@@ -47,11 +51,13 @@ end-read : (w : tie.After-wide Inv-loop μ-loop)
 end-read w = w .wide .ensures .0 ∙ w .before .end-at .ensures
 
 fits : (w : tie.After-wide Inv-loop μ-loop)
-    → (let l = w .before .before .before .before .before in (l .loop .start ≤ w .wide .result) × (w .wide .result ≤ length (entry l .args .«data» .now)))
+    → (let l = w .before .before .before .before .before in
+    (l .loop .start ≤ w .wide .result) × (w .wide .result ≤ length (entry l .args .«data» .now)))
 fits w =
     let l = w .before .before .before .before .before in
     let a = entry l .args in
-    own-fits (a .«data» .now) (a .ends .now) (a .marks .now) (a .indexes .now) (entry l .pre) (l .loop .i) (w .before .before .before .before .loop-test .taken) _ _ (l .loop .inv .1) (end-read w)
+    own-fits (a .«data» .now) (a .ends .now) (a .marks .now) (a .indexes .now) (entry l .pre) (l .loop .i)
+    (w .before .before .before .before .loop-test .taken) _ _ (l .loop .inv .1) (end-read w)
 
 first-round-requires : tie.Need-first-round-requires Inv-loop μ-loop
 first-round-requires c κs = search needs
@@ -73,7 +79,11 @@ end-at-requires : tie.Need-end-at-requires Inv-loop μ-loop
 end-at-requires c κs =
     let l = c .before .before .before in
     let a = entry l .args in
-    omega (arith, end-within-bytes (a .«data» .now) (a .ends .now) (a .marks .now) (a .indexes .now) (entry l .pre) (l .loop .i) (c .before .before .loop-test .taken))
+    omega (
+      arith,
+      end-within-bytes (a .«data» .now) (a .ends .now) (a .marks .now) (a .indexes .now) (entry l .pre) (l .loop .i)
+          (c .before .before .loop-test .taken),
+    )
 
 wide-requires : tie.Need-wide-requires Inv-loop μ-loop
 wide-requires c κs = search needs
@@ -94,14 +104,19 @@ index-at-requires : tie.Need-index-at-requires Inv-loop μ-loop
 index-at-requires c κs =
     let l = c .before .before .before .before .before .before .before in
     let a = entry l .args in
-    omega (arith, index-within-bytes (a .«data» .now) (a .ends .now) (a .marks .now) (a .indexes .now) (entry l .pre) (l .loop .i) (c .before .before .before .before .before .before .loop-test .taken))
+    omega (
+      arith,
+      index-within-bytes (a .«data» .now) (a .ends .now) (a .marks .now) (a .indexes .now) (entry l .pre) (l .loop .i)
+          (c .before .before .before .before .before .before .loop-test .taken),
+    )
 
 next-round-requires : tie.Need-next-round-requires Inv-loop μ-loop
 next-round-requires c κs =
     let w = c .before .before .before in
     let l = w .before .before .before .before .before in
     let a = entry l .args in
-    own-few (a .«data» .now) (a .ends .now) (a .marks .now) (a .indexes .now) (entry l .pre) (l .loop .i) (w .before .before .before .before .loop-test .taken) _ _ (l .loop .inv .1) (end-read w)
+    own-few (a .«data» .now) (a .ends .now) (a .marks .now) (a .indexes .now) (entry l .pre) (l .loop .i)
+    (w .before .before .before .before .loop-test .taken) _ _ (l .loop .inv .1) (end-read w)
 
 add-i : tie.Need-add-i Inv-loop μ-loop
 add-i c =
@@ -117,10 +132,13 @@ loop-again c =
     let t = w .before .before .before .before in
     let l = t .before in
     let a = entry l .args in
-    let e = element-read (a .«data» .now) (a .ends .now) (a .marks .now) (a .indexes .now) (entry l .pre) (l .loop .i) (t .loop-test .taken) _ _ (l .loop .inv .1) (end-read w) _ (c .before .index-at .ensures) in (
+    let e = element-read (a .«data» .now) (a .ends .now) (a .marks .now) (a .indexes .now) (entry l .pre) (l .loop .i) (t .loop-test .taken)
+    _ _ (l .loop .inv .1) (end-read w) _ (c .before .index-at .ensures) in (
       omega (arith, t .loop-test .taken),
-      next-start (a .«data» .now) (a .ends .now) (a .marks .now) (a .indexes .now) (entry l .pre) (l .loop .i) (t .loop-test .taken) _ _ (l .loop .inv .1) (end-read w),
-      one-followed (a .p) (a .retry .0) _ _ (list l) (l .loop .i) _ (l .loop .inv .2) (omega (arith, many l, t .loop-test .taken)) _ e _ _ (c .next-round .ensures),
+      next-start (a .«data» .now) (a .ends .now) (a .marks .now) (a .indexes .now) (entry l .pre) (l .loop .i) (t .loop-test .taken) _ _
+          (l .loop .inv .1) (end-read w),
+      one-followed (a .p) (a .retry .0) _ _ (list l) (l .loop .i) _ (l .loop .inv .2) (omega (arith, many l, t .loop-test .taken)) _ e _ _
+          (c .next-round .ensures),
     )
 
 last-passes-requires : tie.Need-last-passes-requires Inv-loop μ-loop
@@ -131,7 +149,8 @@ returns-2 c =
     let l = c .before .before in
     let a = entry l .args in
     c .last-passes .ensures (a .retry .0)
-    ∙ ap (yesOn (a .p .x)) (all-followed (a .p) (a .retry .0) _ _ (list l) (l .loop .i) _ (reached l) (omega (arith, many l, c .before .loop-test .left)))
+    ∙ ap (yesOn (a .p .x))
+    (all-followed (a .p) (a .retry .0) _ _ (list l) (l .loop .i) _ (reached l) (omega (arith, many l, c .before .loop-test .left)))
 
 pub chain-passes-in-bytes-spec : {M : Type 1} → statement M
 chain-passes-in-bytes-spec =

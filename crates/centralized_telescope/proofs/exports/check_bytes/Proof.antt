@@ -2,6 +2,7 @@
 use mathlib.Core.Path.{sym, _∙_}
 use Prim.Native.Nat.{_/_}
 use lib.ListN.{length}
+use Rattle.centralized_telescope.specs.Elements.{lentOf}
 use Rattle.centralized_telescope.specs.Exports.{numbersOf}
 use Rattle.centralized_telescope.proofs.ListAnswers.{found}
 use Rattle.centralized_telescope.proofs.NumbersRead.{length-numbersIn}
@@ -24,7 +25,7 @@ returns c =
     let e = a .ends .now in
     let k = a .indexes .now in
     c .list-answer .ensures
-    ∙ found (a .«data» .now) (numbersOf 4 e) (a .marks .now) (numbersOf 8 k) (length e / 4) (length k / 8) _ _ _
+    ∙ found (lentOf (a .«data» .now) (numbersOf 4 e) (a .marks .now) (numbersOf 8 k)) (length e / 4) (length k / 8) _ _ _
     (sym (length-numbersIn (length e / 4) 4 e)) (sym (length-numbersIn (length k / 8) 8 k)) (c .before .before .some-mark-over .ensures)
     (c .before .find-in-ends .ensures .0) (c .before .find-in-ends .ensures .1)
 

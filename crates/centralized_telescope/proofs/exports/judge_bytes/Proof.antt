@@ -3,7 +3,8 @@ use mathlib.Core.Path.{_≡_, sym, _∙_}
 use mathlib.Core.List.{List}
 use lib.ListN.{length}
 use Rattle.centralized_telescope.specs.Elements.{Element, elements}
-use Rattle.centralized_telescope.specs.Exports.{numbersOf}
+use Rattle.centralized_telescope.specs.inner.ListReading.{lentNow}
+use Rattle.centralized_telescope.specs.Exports.{numbered}
 use Rattle.centralized_telescope.proofs.ExportAnswers.{elements-many}
 use Rattle.centralized_telescope.proofs.VerdictAnswers.{counts-told, chain-told}
 use borrow.Author.Needs.{needs}
@@ -12,7 +13,7 @@ use Rattle.centralized_telescope.proofs.exports.judge_bytes.Tie as tie
 
 -- the elements of the proof
 abbrev list : tie.Start → List Element
-list s = let a = s .args in elements (a .«data» .now) (numbersOf 4 (a .ends .now)) (a .marks .now) (numbersOf 8 (a .indexes .now))
+list s = let a = s .args in elements (numbered (lentNow a.«data» a.ends a.marks a.indexes))
 
 many : (s : tie.Start) → length (list s) ≡ length (s .args .marks .now)
 many s = let a = s .args in elements-many (a .«data» .now) (a .ends .now) (a .marks .now) (a .indexes .now) (s .pre)
@@ -27,7 +28,8 @@ returns : tie.Need-returns
 returns c =
     let s = c .before .before .before .before .before .before .before in
     let a = s .args in
-    counts-told (a .p) (a .retry .0) (a .search .0) (list s) _ _ (many s) (c .before .before .judge-counts .ensures) (λ z. c .if1 .taken (c .before .verdict-number .ensures ∙ z))
+    counts-told (a .p) (a .retry .0) (a .search .0) (list s) _ _ (many s) (c .before .before .judge-counts .ensures)
+    (λ z. c .if1 .taken (c .before .verdict-number .ensures ∙ z))
 
 chain-passes-in-bytes-requires : tie.Need-chain-passes-in-bytes-requires
 chain-passes-in-bytes-requires c κs = search needs
@@ -40,7 +42,8 @@ returns-2 c =
     let s = c .before .before .before .before .before .before .before .before .before in
     let a = s .args in
     c .judge-chain .ensures
-    ∙ chain-told (a .p) (a .retry .0) (a .search .0) (list s) _ _ (many s) (c .before .before .before .before .judge-counts .ensures) (sym (c .before .before .before .verdict-number .ensures) ∙ c .before .before .if1 .left)
+    ∙ chain-told (a .p) (a .retry .0) (a .search .0) (list s) _ _ (many s) (c .before .before .before .before .judge-counts .ensures)
+    (sym (c .before .before .before .verdict-number .ensures) ∙ c .before .before .if1 .left)
     _ (c .before .chain-passes-in-bytes .ensures)
 
 pub judge-bytes-spec : {M : Type 1} → statement M

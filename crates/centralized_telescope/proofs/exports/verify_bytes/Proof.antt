@@ -3,7 +3,8 @@ use mathlib.Core.Path.{_≡_, sym, ap, _∙_}
 use Rattle.centralized_telescope.specs.Elements.{elements, listCheck, listNumber}
 use Rattle.centralized_telescope.specs.Params.{checked, checkedNumber}
 use Rattle.centralized_telescope.specs.Verifier.{judged, verdict}
-use Rattle.centralized_telescope.specs.Exports.{numbersOf, exportedVerdict}
+use Rattle.centralized_telescope.specs.inner.ListReading.{lentNow}
+use Rattle.centralized_telescope.specs.Exports.{numbered, exportedVerdict}
 use Rattle.centralized_telescope.proofs.VerdictAnswers.{list-refused, left-to-judge}
 use Rattle.centralized_telescope.proofs.ExportAnswers.{bytes-settings-refused, ends-not-whole, indexes-not-whole, whole-counts}
 use borrow.Author.Needs.{needs}
@@ -17,27 +18,31 @@ lawful-settings s = sym (s .before .before .check-params .ensures) ∙ ap checke
 -- both counts are whole: the exported verdict is the verdict on the numbers
 as-exported : (s : tie.Else2)
     → (let a = s .before .before .before .before .before .before .before .before .before .args in
-    verdict (a .p) (a .retry .0) (a .search .0) (a .«data» .now) (numbersOf 4 (a .ends .now)) (a .marks .now) (numbersOf 8 (a .indexes .now))
-    ≡ exportedVerdict (a .p) (a .retry .0) (a .search .0) (a .«data» .now) (a .ends .now) (a .marks .now) (a .indexes .now))
+    verdict (a .p) (a .retry .0) (a .search .0)
+    (numbered (lentNow a.«data» a.ends a.marks a.indexes))
+    ≡ exportedVerdict (a .p) (a .retry .0) (a .search .0) (lentNow a.«data» a.ends a.marks a.indexes))
 as-exported s =
     let a = s .before .before .before .before .before .before .before .before .before .args in
-    whole-counts (a .p) (a .retry .0) (a .search .0) (a .«data» .now) (a .ends .now) (a .marks .now) (a .indexes .now) (s .before .if1 .left) (s .if2 .left)
+    whole-counts (a .p) (a .retry .0) (a .search .0) (a .«data» .now) (a .ends .now) (a .marks .now) (a .indexes .now)
+    (s .before .if1 .left) (s .if2 .left)
 
 -- the list is accepted
 accepted : (s : tie.After-enum-told2)
     → (let a = s .before .before .before .before .before .before .before .before .before .before .before .before .args in
-    listCheck (a .«data» .now) (numbersOf 4 (a .ends .now)) (a .marks .now) (numbersOf 8 (a .indexes .now)) ≡ 0)
+    listCheck (numbered (lentNow a.«data» a.ends a.marks a.indexes)) ≡ 0)
 accepted s = sym (s .before .before .check-bytes .ensures) ∙ ap listNumber (s .enum-told2 .given .1)
 
 -- and its elements are judged
 judged-so : (s : tie.After-enum-told2)
     → (let a = s .before .before .before .before .before .before .before .before .before .before .before .before .args in
-    judged (a .p) (a .retry .0) (a .search .0) (elements (a .«data» .now) (numbersOf 4 (a .ends .now)) (a .marks .now) (numbersOf 8 (a .indexes .now)))
-    ≡ exportedVerdict (a .p) (a .retry .0) (a .search .0) (a .«data» .now) (a .ends .now) (a .marks .now) (a .indexes .now))
+    judged (a .p) (a .retry .0) (a .search .0)
+    (elements (numbered (lentNow a.«data» a.ends a.marks a.indexes)))
+    ≡ exportedVerdict (a .p) (a .retry .0) (a .search .0) (lentNow a.«data» a.ends a.marks a.indexes))
 judged-so s =
     let there = s .before .before .before .before .before in
     let a = there .before .before .before .before .before .before .before .args in
-    left-to-judge (a .p) (a .retry .0) (a .search .0) (a .«data» .now) (numbersOf 4 (a .ends .now)) (a .marks .now) (numbersOf 8 (a .indexes .now))
+    left-to-judge (a .p) (a .retry .0) (a .search .0)
+    (numbered (lentNow a.«data» a.ends a.marks a.indexes))
     (lawful-settings there) (accepted s)
     ∙ as-exported (s .before .before .before)
 
@@ -54,19 +59,22 @@ returns : tie.Need-returns
 returns c =
     let s = c .before in
     let a = s .before .before .before .before .before .before .before .args in
-    bytes-settings-refused (a .p) (a .retry .0) (a .search .0) (a .«data» .now) (a .ends .now) (a .marks .now) (a .indexes .now) (s .k .given .0 .0) (sym (s .before .before .check-params .ensures) ∙ ap checkedNumber (s .k .given .1))
+    bytes-settings-refused (a .p) (a .retry .0) (a .search .0) (a .«data» .now) (a .ends .now) (a .marks .now) (a .indexes .now)
+    (s .k .given .0 .0) (sym (s .before .before .check-params .ensures) ∙ ap checkedNumber (s .k .given .1))
 
 returns-2 : tie.Need-returns-2
 returns-2 c =
     let s = c .before in
     let a = s .before .before .before .before .before .before .before .args in
-    ends-not-whole (a .p) (a .retry .0) (a .search .0) (a .«data» .now) (a .ends .now) (a .marks .now) (a .indexes .now) (lawful-settings s) (c .if1 .taken)
+    ends-not-whole (a .p) (a .retry .0) (a .search .0) (a .«data» .now) (a .ends .now) (a .marks .now) (a .indexes .now) (lawful-settings s)
+    (c .if1 .taken)
 
 returns-3 : tie.Need-returns-3
 returns-3 c =
     let s = c .before .before in
     let a = s .before .before .before .before .before .before .before .args in
-    indexes-not-whole (a .p) (a .retry .0) (a .search .0) (a .«data» .now) (a .ends .now) (a .marks .now) (a .indexes .now) (lawful-settings s) (c .before .if1 .left) (c .if2 .taken)
+    indexes-not-whole (a .p) (a .retry .0) (a .search .0) (a .«data» .now) (a .ends .now) (a .marks .now) (a .indexes .now)
+    (lawful-settings s) (c .before .if1 .left) (c .if2 .taken)
 
 check-bytes-requires : tie.Need-check-bytes-requires
 check-bytes-requires c κs = search needs
@@ -82,7 +90,8 @@ returns-4 c =
     let s = c .before in
     let there = s .before .before .before .before .before in
     let a = there .before .before .before .before .before .before .before .args in
-    list-refused (a .p) (a .retry .0) (a .search .0) (a .«data» .now) (numbersOf 4 (a .ends .now)) (a .marks .now) (numbersOf 8 (a .indexes .now)) (lawful-settings there)
+    list-refused (a .p) (a .retry .0) (a .search .0)
+    (numbered (lentNow a.«data» a.ends a.marks a.indexes)) (lawful-settings there)
     (s .k2 .given .0 .0) (sym (s .before .before .check-bytes .ensures) ∙ ap listNumber (s .k2 .given .1))
     ∙ as-exported (s .before .before .before)
 

@@ -2,7 +2,8 @@
 use mathlib.Core.Path.{_≡_, sym, _∙_}
 use mathlib.Core.List.{List}
 use lib.ListN.{length}
-use Rattle.centralized_telescope.specs.Elements.{Element, elements}
+use Rattle.centralized_telescope.specs.Elements.{Element, elements, Lent}
+use Rattle.centralized_telescope.specs.inner.ListReading.{lentNow}
 use Rattle.centralized_telescope.specs.laws.ElementsLaws.{length-elements}
 use Rattle.centralized_telescope.proofs.VerdictAnswers.{counts-told, chain-told}
 use borrow.Author.Needs.{needs}
@@ -10,11 +11,14 @@ use Rattle.centralized_telescope.proofs.proof.judge.Statement.{statemen
 use Rattle.centralized_telescope.proofs.proof.judge.Tie as tie
 
 -- the elements of the proof
+abbrev own : tie.Start → Lent
+own s = let a = s .args in lentNow a.«data» a.ends a.marks a.indexes
+
 abbrev list : tie.Start → List Element
-list s = let a = s .args in elements (a .«data» .now) (a .ends .now) (a .marks .now) (a .indexes .now)
+list s = elements (own s)
 
 many : (s : tie.Start) → length (list s) ≡ length (s .args .ends .now)
-many s = let a = s .args in length-elements (a .«data» .now) (a .ends .now) (a .marks .now) (a .indexes .now) (s .pre)
+many s = length-elements (own s) (s .pre)
 
 judge-counts-requires : tie.Need-judge-counts-requires
 judge-counts-requires c κs = search needs
@@ -26,7 +30,8 @@ returns : tie.Need-returns
 returns c =
     let s = c .before .before .before .before .before .before .before in
     let a = s .args in
-    counts-told (a .p) (a .retry .0) (a .search .0) (list s) _ _ (many s) (c .before .before .judge-counts .ensures) (λ z. c .if1 .taken (c .before .verdict-number .ensures ∙ z))
+    counts-told (a .p) (a .retry .0) (a .search .0) (list s) _ _ (many s) (c .before .before .judge-counts .ensures)
+    (λ z. c .if1 .taken (c .before .verdict-number .ensures ∙ z))
 
 chain-passes-requires : tie.Need-chain-passes-requires
 chain-passes-requires c κs = search needs
@@ -39,7 +44,8 @@ returns-2 c =
     let s = c .before .before .before .before .before .before .before .before .before in
     let a = s .args in
     c .judge-chain .ensures
-    ∙ chain-told (a .p) (a .retry .0) (a .search .0) (list s) _ _ (many s) (c .before .before .before .before .judge-counts .ensures) (sym (c .before .before .before .verdict-number .ensures) ∙ c .before .before .if1 .left)
+    ∙ chain-told (a .p) (a .retry .0) (a .search .0) (list s) _ _ (many s) (c .before .before .before .before .judge-counts .ensures)
+    (sym (c .before .before .before .verdict-number .ensures) ∙ c .before .before .if1 .left)
     _ (c .before .chain-passes .ensures)
 
 pub judge-spec : {M : Type 1} → statement M

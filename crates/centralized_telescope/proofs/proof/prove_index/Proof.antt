@@ -7,6 +7,8 @@ use native.Mathlib.Nat.{sub-zero}
 use native.Mathlib.Omega.{arith}
 use borrow.Author.Needs.{needs}
 use lib.ListN.{length}
+use Rattle.centralized_telescope.specs.Elements.{lentOf}
+use Rattle.centralized_telescope.specs.inner.ListReading.{lentNow}
 use Rattle.centralized_telescope.specs.Chains.{Try}
 use Rattle.centralized_telescope.specs.inner.RoundAnswers.{idOption}
 use Rattle.centralized_telescope.specs.laws.TryLaws.{id-below}
@@ -18,8 +20,9 @@ use Rattle.centralized_telescope.proofs.proof.prove_index.Tie as tie
 
 abbrev Inv-loop : tie.InvT-loop
 Inv-loop p retry «data» ends marks indexes table places₀ count₀ s₀ places count s =
-    let T : Try = tryOn p «data» ends marks indexes (retry .0) in
-    (s ≤ p .«search_width») × (count ≤ p .«dfs_bound») × (places ≡ places₀) × (tried T (p .«search_width») 0 0 ≡ tried T (p .«search_width» - s) s count)
+    let T : Try = tryOn p (lentOf «data» ends marks indexes) (retry .0) in
+    (s ≤ p .«search_width») × (count ≤ p .«dfs_bound») × (places ≡ places₀)
+    × (tried T (p .«search_width») 0 0 ≡ tried T (p .«search_width» - s) s count)
 
 abbrev μ-loop : tie.MeasureT-loop
 μ-loop p retry «data» ends marks indexes table places₀ count₀ s₀ places count s = p .«search_width» - s
@@ -37,7 +40,7 @@ turn s = s .before .before .before .before .before .before
 abbrev the-try : Drawn → Try
 the-try s =
     let a = entry s .args in
-    tryOn (a .p) (a .«data» .now) (a .ends .now) (a .marks .now) (a .indexes .now) (a .retry .0)
+    tryOn (a .p) (lentNow a.«data» a.ends a.marks a.indexes) (a .retry .0)
 
 -- what a turn knows there
 trying : (s : Drawn)
@@ -59,8 +62,13 @@ trying s =
 
 loop-holds : tie.Need-loop-holds Inv-loop μ-loop
 loop-holds c =
-    let a = c .before .before .before .before .before .before .args in
-    (search needs, search needs, refl, ap (λ (w : ℕ). tried (tryOn (a .p) (a .«data» .now) (a .ends .now) (a .marks .now) (a .indexes .now) (a .retry .0)) w 0 0) (sym (sub-zero (a .p .«search_width»))))
+    let a = c .before .before .before .before .before .before .args in (
+      search needs,
+      search needs,
+      refl,
+      ap (λ (w : ℕ). tried (tryOn (a .p) (lentNow a.«data» a.ends a.marks a.indexes) (a .retry .0)) w 0 0)
+          (sym (sub-zero (a .p .«search_width»))),
+    )
 
 same-length : tie.Need-same-length Inv-loop μ-loop
 same-length c = search needs
@@ -69,7 +77,8 @@ returns : tie.Need-returns Inv-loop μ-loop
 returns c =
     let v = c .before .before .before .before .loop in
     let a = c .before .before .before .before .before .before .before .before .before .before .before .args in
-    stopped attemptOf _ _ _ _ (v .inv .3 ∙ tried-full (tryOn (a .p) (a .«data» .now) (a .ends .now) (a .marks .now) (a .indexes .now) (a .retry .0)) (a .p .«search_width» - v .s) (v .s) (v .count) (c .if2 .taken)) (v .inv .2)
+    stopped attemptOf _ _ _ _ (v .inv .3 ∙ tried-full (tryOn (a .p) (lentNow a.«data» a.ends a.marks a.indexes) (a .retry .0))
+    (a .p .«search_width» - v .s) (v .s) (v .count) (c .if2 .taken)) (v .inv .2)
 
 start-hash-requires : tie.Need-start-hash-requires Inv-loop μ-loop
 start-hash-requires c κs = search needs
@@ -85,24 +94,24 @@ visit-requires c κs =
     let at-if2 = c .before .before .before .before .before .before in
     let o = at-if2 .before .before .before .before .before .before .before .before .before .before .before in
     let a = o .args in
-    let v = c .before .before .before .before .before .before .before .before .before .before .loop in (
-      subst
-          (λ (l : List ℕ). Ready (a .p) (a .«data» .now) (a .ends .now) (a .marks .now) (a .indexes .now) (a .retry .0) (a .table .now) (length l))
-          (sym (v .inv .2)) (o .pre),
-      (
-        id-below (tryOn (a .p) (a .«data» .now) (a .ends .now) (a .marks .now) (a .indexes .now) (a .retry .0)) _ _
-            (sym (c .before .before .before .before .round-id .ensures) ∙ ap idOption (c .before .before .drawn .given .1)),
-        omega arith,
-        at-if2 .if2 .left,
-      ),
-    )
+    let v = c .before .before .before .before .before .before .before .before .before .before .loop in
+    record {
+      ready = subst (λ (l : List ℕ). Ready (a .p) (lentNow a.«data» a.ends a.marks a.indexes) (a .retry .0) (a .table .now) (length l))
+          (sym (v .inv .2)) (o .pre);
+      bin =
+          id-below (tryOn (a .p) (lentNow a.«data» a.ends a.marks a.indexes) (a .retry .0)) _ _
+          (sym (c .before .before .before .before .round-id .ensures) ∙ ap idOption (c .before .before .drawn .given .1));
+      deep = omega arith;
+      within = at-if2 .if2 .left;
+    }
 
 enum-known-outcome : tie.Need-enum-known-outcome Inv-loop μ-loop
 enum-known-outcome c = search needs
 
 same-length-2 : tie.Need-same-length-2 Inv-loop μ-loop
 same-length-2 c =
-    let turn = c .before .before .before .before .before .before .before .before .before .before .before .before .before .before .before .before in
+    let turn =
+    c .before .before .before .before .before .before .before .before .before .before .before .before .before .before .before .before in
     c .before .before .before .before .before .visit .kept .1 .1 .1 .1 .1 .1 .1 .1 .1 .1 .1 .1 .1 .0
     ∙ ap length (turn .loop .inv .2)
 
@@ -155,7 +164,8 @@ returns-3 c =
     let v = c .before .before .loop in
     let a = c .before .before .before .before .before .before .before .before .before .args in
     let e : a .p .«search_width» - v .s ≡ 0 = omega (arith, c .if1 .left) in
-    stopped attemptOf _ _ _ _ (v .inv .3 ∙ tried-end (tryOn (a .p) (a .«data» .now) (a .ends .now) (a .marks .now) (a .indexes .now) (a .retry .0)) (a .p .«search_width» - v .s) (v .s) (v .count) e) (v .inv .2)
+    stopped attemptOf _ _ _ _ (v .inv .3 ∙ tried-end (tryOn (a .p) (lentNow a.«data» a.ends a.marks a.indexes) (a .retry .0))
+    (a .p .«search_width» - v .s) (v .s) (v .count) e) (v .inv .2)
 
 pub prove-index-spec : {M : Type 1} → statement M
 prove-index-spec =

@@ -7,16 +7,18 @@ use native.Mathlib.Omega.{arith}
 use borrow.Author.Needs.{needs}
 use lib.ListN.{length}
 use Rattle.centralized_telescope.specs.laws.ParamsLaws.{lawful}
-use Rattle.centralized_telescope.specs.Elements.{Element, elements}
+use Rattle.centralized_telescope.specs.Elements.{Element, elements, lentOf}
+use Rattle.centralized_telescope.specs.inner.ListReading.{lentNow}
 use Rattle.centralized_telescope.specs.Search.{triesFrom, searched}
 use Rattle.centralized_telescope.specs.Prover.{tableAfter}
-use Rattle.centralized_telescope.proofs.ManyTries.{next-table, Attempted, all-missing, found-within, all-found, not-in-bounds, not-found, filled-ready}
+use Rattle.centralized_telescope.proofs.ManyTries.{next-table, Attempted, all-missing, found-within, all-found, not-in-bounds}
+use Rattle.centralized_telescope.proofs.ManyTries.{not-found, filled-ready}
 use Rattle.centralized_telescope.proofs.proof.prove_routine.Statement.{statement}
 use Rattle.centralized_telescope.proofs.proof.prove_routine.Tie as tie
 
 abbrev Inv-loop : tie.InvT-loop
 Inv-loop p «data» ends marks indexes places₀ table₀ steps₀ r₀ places table steps r =
-    let es : List Element = elements «data» ends marks indexes in
+    let es : List Element = elements (lentOf «data» ends marks indexes) in
     (r ≤ p .«max_retries») × (steps ≤ r * 2 ^ 48) × (length table ≡ length table₀) × (table ≡ tableAfter p es r table₀) × (places ≡ places₀)
     × (searched p es ≡ triesFrom p es (p .«max_retries» - r) r steps)
 
@@ -26,8 +28,15 @@ abbrev μ-loop : tie.MeasureT-loop
 loop-holds : tie.Need-loop-holds Inv-loop μ-loop
 unfolding tableAfter searched
 loop-holds c =
-    let a = c .before .before .before .before .before .before .args in
-    (search needs, search needs, refl, refl, refl, ap (λ (w : ℕ). triesFrom (a .p) (elements (a .«data» .now) (a .ends .now) (a .marks .now) (a .indexes .now)) w 0 0) (sym (sub-zero (a .p .«max_retries»))))
+    let a = c .before .before .before .before .before .before .args in (
+      search needs,
+      search needs,
+      refl,
+      refl,
+      refl,
+      ap (λ (w : ℕ). triesFrom (a .p) (elements (lentNow a.«data» a.ends a.marks a.indexes)) w 0 0)
+          (sym (sub-zero (a .p .«max_retries»))),
+    )
 
 -- where a try is made; from there, where the call began, where the turn began, and the list's elements
 abbrev Made : Type 0
@@ -42,13 +51,14 @@ turn s = s .before .before .before .before .before .before .before .before .befo
 abbrev list : Made → List Element
 list s =
     let a = entry s .args in
-    elements (a .«data» .now) (a .ends .now) (a .marks .now) (a .indexes .now)
+    elements (lentNow a.«data» a.ends a.marks a.indexes)
 
 -- what a turn knows there
 attempted : (s : Made)
     → (let a = entry s .args in
     let v = turn s .loop in
-    Attempted (a .p) (list s) (a .p .«max_retries» - (v .r + 1)) (v .r) (v .steps) (s .prove-index .result) (s .prove-index .last .1 .1 .1 .1 .1 .1 .1 .0) (v .places) (a .places .now))
+    Attempted (a .p) (list s) (a .p .«max_retries» - (v .r + 1)) (v .r) (v .steps) (s .prove-index .result)
+    (s .prove-index .last .1 .1 .1 .1 .1 .1 .1 .0) (v .places) (a .places .now))
 attempted s =
     let at-if1 = s .before .before .before .before .before .before .before in
     let m = entry s .args .p .«max_retries» in
@@ -68,7 +78,8 @@ table-next : (s : Made)
 table-next s =
     let a = entry s .args in
     let v = turn s .loop in
-    next-table (a .p) (list s) (v .r) _ (v .table) (a .table .now) (v .inv .3) (s .before .before .before .before .before .fill-table .ensures)
+    next-table (a .p) (list s) (v .r) _ (v .table) (a .table .now) (v .inv .3)
+    (s .before .before .before .before .before .fill-table .ensures)
 
 -- a count within the bound can be added
 sum-fits : (s : Made) (t : ℕ) → t ≤ entry s .args .p .«dfs_bound» → turn s .loop .steps + t ≤ 18446744073709551615
@@ -95,7 +106,8 @@ prove-index-requires c κs =
     let o = c .before .before .before .before .before .before .before .before .before .before .before .before .before .before .before in
     let a = o .args in
     let v = c .before .before .before .before .before .before .before .before .loop in
-    filled-ready (a .p) _ _ _ _ (v .r + 1) _ _ (length (v .places)) (o .pre .0) (o .pre .1) (c .before .before .before .before .fill-table .ensures)
+    filled-ready (a .p) (lentOf _ _ _ _) (v .r + 1) _ _ (length (v .places)) (o .pre .0) (o .pre .1)
+    (c .before .before .before .before .fill-table .ensures)
     (omega (arith, o .pre .2, ap length (v .inv .4)))
 
 enum-known-one : tie.Need-enum-known-one Inv-loop μ-loop
@@ -161,7 +173,8 @@ returns-2 c =
     let a = o .args in
     let v = c .before .before .before .before .loop in
     let e : a .p .«max_retries» - v .r ≡ 0 = omega (arith, c .before .before .if1 .left) in
-    not-in-bounds (a .p) (elements (a .«data» .now) (a .ends .now) (a .marks .now) (a .indexes .now)) (a .p .«max_retries» - v .r) (v .r) (v .steps) e (v .inv .5) _
+    not-in-bounds (a .p) (elements (lentNow a.«data» a.ends a.marks a.indexes)) (a .p .«max_retries» - v .r) (v .r) (v .steps) e (v .inv .5)
+    _
     _ _ _ (v .inv .3) (v .inv .4) (c .if2 .taken)
 
 same-length-5 : tie.Need-same-length-5 Inv-loop μ-loop
@@ -176,7 +189,8 @@ returns-3 c =
     let a = o .args in
     let v = c .before .before .before .before .loop in
     let e : a .p .«max_retries» - v .r ≡ 0 = omega (arith, c .before .before .if1 .left) in
-    not-found (a .p) (elements (a .«data» .now) (a .ends .now) (a .marks .now) (a .indexes .now)) (a .p .«max_retries» - v .r) (v .r) (v .steps) e (v .inv .5) _ _ _
+    not-found (a .p) (elements (lentNow a.«data» a.ends a.marks a.indexes)) (a .p .«max_retries» - v .r) (v .r) (v .steps) e (v .inv .5) _ _
+    _
     _ (v .inv .3) (v .inv .4) (c .if2 .left)
 
 pub prove-routine-spec : {M : Type 1} → statement M

@@ -1,6 +1,6 @@
 -- `bin_of`: the draw from the digest of the label, the retry counter and the tail.
 use Rattle.centralized_telescope.specs.Rounds.{binLabel}
-use Rattle.centralized_telescope.specs.inner.ListReading.{lent}
+use Rattle.centralized_telescope.specs.inner.ListReading.{elementOf}
 use Rattle.centralized_telescope.proofs.RoundHashes.{bin-is}
 use borrow.Author.Needs.{needs}
 use Rattle.centralized_telescope.proofs.round.bin_of.Statement.{statement}
@@ -25,7 +25,8 @@ returns : tie.Need-returns
 unfolding binLabel
 returns c =
     let z = c .before .before .before .before .before .before .args in
-    bin-is _ _ _ (z .n) (z .retry .0) (lent (z .own .now) (z .index .mark) (z .index .number)) (c .round-id .ensures) (c .before .tail-digest .ensures) (c .before .before .before .before .eight-bytes .ensures)
+    bin-is _ _ _ (z .n) (z .retry .0) (elementOf (z .own .now) (z .index .mark) (z .index .number)) (c .round-id .ensures)
+    (c .before .tail-digest .ensures) (c .before .before .before .before .eight-bytes .ensures)
 
 pub bin-of-spec : {M : Type 1} → statement M
 bin-of-spec =

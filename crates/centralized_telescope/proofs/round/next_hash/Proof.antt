@@ -9,26 +9,27 @@ data-of-requires : tie.Need-data-of-requires
 data-of-requires c κs =
     let z = c .before .before .before .before .args in
     let p = c .before .before .before .before .pre in
-    (ends-right (z .«data» .now) (z .ends .now) (z .marks .now) (z .indexes .now) (p .0), p .1)
+    (ends-right _ (p .0), p .1)
 
 index-of-requires : tie.Need-index-of-requires
 index-of-requires c κs =
     let z = c .before .before .before .before .before .args in
     let p = c .before .before .before .before .before .pre in
-    place-within (z .«data» .now) (z .ends .now) (z .marks .now) (z .indexes .now) (p .0) (z .place) (p .1)
+    place-within _ (p .0) (z .place) (p .1)
 
 hash-after-requires : tie.Need-hash-after-requires
 hash-after-requires c κs =
     let z = c .before .before .before .before .before .before .args in
     let p = c .before .before .before .before .before .before .pre in
-    own-short (z .«data» .now) (z .ends .now) (z .marks .now) (z .indexes .now) (p .0) (z .place) (p .1) _ (c .before .data-of .ensures)
+    own-short _ (p .0) (z .place) (p .1) _ (c .before .data-of .ensures)
 
 returns : tie.Need-returns
 returns c =
     let z = c .before .before .before .before .before .before .before .args in
     let p = c .before .before .before .before .before .before .before .pre in
     c .hash-after .ensures
-    ∙ ap (nextHash (z .h)) (read-there (z .«data» .now) (z .ends .now) (z .marks .now) (z .indexes .now) (p .0) (z .place) (p .1) _ _ _ (c .before .before .data-of .ensures) (c .before .index-of .ensures))
+    ∙ ap (nextHash (z .h))
+    (read-there _ (p .0) (z .place) (p .1) _ _ _ (c .before .before .data-of .ensures) (c .before .index-of .ensures))
 
 pub next-hash-spec : {M : Type 1} → statement M
 next-hash-spec =

@@ -4,7 +4,7 @@ use native.Mathlib.Omega.{arith}
 use lib.ListN.{length}
 use lib.Seq.{length-take-le}
 use Rattle.centralized_telescope.specs.Elements.{indexOf}
-use Rattle.centralized_telescope.specs.inner.ListReading.{lent}
+use Rattle.centralized_telescope.specs.inner.ListReading.{elementOf}
 use Rattle.centralized_telescope.specs.laws.ElementsLaws.{index-short}
 use Rattle.centralized_telescope.proofs.RoundHashes.{tail-is}
 use borrow.Author.Needs.{needs}
@@ -23,12 +23,19 @@ slice-aggregate-digest c = sym (length-take-le _ _ (c .before .before .index-byt
 digest-requires : tie.Need-digest-requires
 digest-requires c κs =
     let o = c .before .before .before .before .before .before in
-    omega (arith, o .pre .0, o .pre .1, ap length (c .before .before .index-bytes .ensures .1), index-short (indexOf (o .args .index .mark) (o .args .index .number)))
+    omega (
+      arith,
+      o .pre .0,
+      o .pre .1,
+      ap length (c .before .before .index-bytes .ensures .1),
+      index-short (indexOf (o .args .index .mark) (o .args .index .number)),
+    )
 
 returns : tie.Need-returns
 returns c =
     let z = c .before .before .before .before .before .before .before .args in
-    tail-is (z .label .now) (z .first .now) _ _ (lent (z .own .now) (z .index .mark) (z .index .number)) (c .before .before .before .index-bytes .ensures .1) (c .digest .ensures)
+    tail-is (z .label .now) (z .first .now) _ _ (elementOf (z .own .now) (z .index .mark) (z .index .number))
+    (c .before .before .before .index-bytes .ensures .1) (c .digest .ensures)
 
 pub tail-digest-spec : {M : Type 1} → statement M
 tail-digest-spec =

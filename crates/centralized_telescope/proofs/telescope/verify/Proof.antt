@@ -1,6 +1,7 @@
 -- `verify`: the settings, the list, then the judgement.
 use mathlib.Core.Path.{_≡_, sym, ap, _∙_}
-use Rattle.centralized_telescope.specs.Elements.{listCheck, listNumber}
+use Rattle.centralized_telescope.specs.Elements.{listCheck, listNumber, Lent}
+use Rattle.centralized_telescope.specs.inner.ListReading.{lentNow}
 use Rattle.centralized_telescope.specs.Params.{checked, checkedNumber}
 use Rattle.centralized_telescope.proofs.VerdictAnswers.{settings-refused, list-refused, left-to-judge}
 use borrow.Author.Needs.{needs}
@@ -11,12 +12,15 @@ use Rattle.centralized_telescope.proofs.telescope.verify.Tie as tie
 abbrev entry : tie.After-check-params → tie.Start
 entry s = s .before .before .before .before .before
 
+abbrev own : tie.Start → Lent
+own s = let a = s .args in lentNow a.«data» a.ends a.marks a.indexes
+
 -- the settings pass
 lawful-settings : (s : tie.After-enum-told) → checked (entry (s .before .before) .args .p) ≡ 0
 lawful-settings s = sym (s .before .before .check-params .ensures) ∙ ap checkedNumber (s .enum-told .given .1)
 
 -- the list is accepted
-accepted : (s : tie.After-enum-told2) → (let a = entry (s .before .before .before .before .before) .args in listCheck (a .«data» .now) (a .ends .now) (a .marks .now) (a .indexes .now) ≡ 0)
+accepted : (s : tie.After-enum-told2) → listCheck (own (entry (s .before .before .before .before .before))) ≡ 0
 accepted s = sym (s .before .before .check-list .ensures) ∙ ap listNumber (s .enum-told2 .given .1)
 
 check-params-requires : tie.Need-check-params-requires
@@ -32,7 +36,8 @@ returns : tie.Need-returns
 returns c =
     let s = c .before in
     let a = entry (s .before .before) .args in
-    settings-refused (a .p) (a .retry-counter .0) (a .search-counter .0) (a .«data» .now) (a .ends .now) (a .marks .now) (a .indexes .now) (s .k .given .0 .0) (sym (s .before .before .check-params .ensures) ∙ ap checkedNumber (s .k .given .1))
+    settings-refused (a .p) (a .retry-counter .0) (a .search-counter .0) _ (s .k .given .0 .0)
+    (sym (s .before .before .check-params .ensures) ∙ ap checkedNumber (s .k .given .1))
 
 check-list-requires : tie.Need-check-list-requires
 check-list-requires c κs = search needs
@@ -47,7 +52,7 @@ returns-2 : tie.Need-returns-2
 returns-2 c =
     let s = c .before in
     let a = entry (s .before .before .before .before .before) .args in
-    list-refused (a .p) (a .retry-counter .0) (a .search-counter .0) (a .«data» .now) (a .ends .now) (a .marks .now) (a .indexes .now) (lawful-settings (s .before .before .before))
+    list-refused (a .p) (a .retry-counter .0) (a .search-counter .0) _ (lawful-settings (s .before .before .before))
     (s .k2 .given .0 .0) (sym (s .before .before .check-list .ensures) ∙ ap listNumber (s .k2 .given .1))
 
 judge-requires : tie.Need-judge-requires
@@ -58,7 +63,8 @@ returns-3 : tie.Need-returns-3
 returns-3 c =
     let s = c .before in
     let a = entry (s .before .before .before .before .before) .args in
-    c .judge .ensures ∙ left-to-judge (a .p) (a .retry-counter .0) (a .search-counter .0) (a .«data» .now) (a .ends .now) (a .marks .now) (a .indexes .now) (lawful-settings (s .before .before .before)) (accepted s)
+    c .judge .ensures
+    ∙ left-to-judge (a .p) (a .retry-counter .0) (a .search-counter .0) _ (lawful-settings (s .before .before .before)) (accepted s)
 
 pub verify-spec : {M : Type 1} → statement M
 verify-spec =

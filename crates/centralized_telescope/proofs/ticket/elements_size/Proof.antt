@@ -1,13 +1,13 @@
 -- `elements_size`: the size of the first i elements.
-use mathlib.Core.Path.{_≡_, refl, sym, ap, _∙_}
+use mathlib.Core.Path.{_≡_, sym, ap}
 use Prim.Native.Nat.{_-_, _*_, _≤_}
 use native.Mathlib.Omega.{arith}
 use borrow.Author.Needs.{needs}
 use lib.ListN.{length, take}
 use lib.Seq.{take-all}
-use Rattle.centralized_telescope.specs.Elements.{elements}
+use Rattle.centralized_telescope.specs.Elements.{elements, lentOf}
 use Rattle.centralized_telescope.specs.Tickets.{elementsBytes}
-use Rattle.centralized_telescope.specs.inner.ListReading.{indexAt}
+use Rattle.centralized_telescope.specs.inner.ListReading.{indexAt, lentNow}
 use Rattle.centralized_telescope.specs.laws.ElementsLaws.{ends-right, same-marks, same-indexes, length-elements, few-elements}
 use Rattle.centralized_telescope.specs.laws.TicketsLaws.{marked-one}
 use Rattle.centralized_telescope.proofs.TicketWriting.{no-bytes, own-small, size-more}
@@ -16,7 +16,7 @@ use Rattle.centralized_telescope.proofs.ticket.elements_size.Tie as tie
 
 abbrev Inv-loop : tie.InvT-loop
 Inv-loop «data» ends marks indexes size₀ i₀ size i =
-    (i ≤ length ends) × (size ≤ 4109 * i) × (size ≡ length (elementsBytes (take i (elements «data» ends marks indexes))))
+    (i ≤ length ends) × (size ≤ 4109 * i) × (size ≡ length (elementsBytes (take i (elements (lentOf «data» ends marks indexes)))))
 
 abbrev μ-loop : tie.MeasureT-loop
 μ-loop «data» ends marks indexes size₀ i₀ size i = length ends - i
@@ -28,14 +28,14 @@ data-of-requires : tie.Need-data-of-requires Inv-loop μ-loop
 data-of-requires c κs =
     let o = c .before .before .before .before .before .before in
     let z = o .args in
-    (ends-right (z .«data» .now) (z .ends .now) (z .marks .now) (z .indexes .now) (o .pre), search needs)
+    (ends-right _ (o .pre), search needs)
 
 index-of-requires : tie.Need-index-of-requires Inv-loop μ-loop
 index-of-requires c κs =
     let o = c .before .before .before .before .before .before .before in
     let z = o .args in (
-      omega (arith, same-marks (z .«data» .now) (z .ends .now) (z .marks .now) (z .indexes .now) (o .pre)),
-      omega (arith, same-indexes (z .«data» .now) (z .ends .now) (z .marks .now) (z .indexes .now) (o .pre)),
+      omega (arith, same-marks _ (o .pre)),
+      omega (arith, same-indexes _ (o .pre)),
     )
 
 cast-size : tie.Need-cast-size Inv-loop μ-loop
@@ -55,18 +55,26 @@ own-short : (c : tie.After-struct-known Inv-loop μ-loop) → length (c .before 
 own-short c =
     let o = c .before .before .before .before .before .before .before .before .before in
     let z = o .args in
-    own-small (z .«data» .now) (z .ends .now) (z .marks .now) (z .indexes .now) (o .pre) (c .before .before .before .before .loop .i) (search needs) _ (c .before .before .data-of .ensures)
+    own-small _ (o .pre) (c .before .before .before .before .loop .i) (search needs) _ (c .before .before .data-of .ensures)
 
 mark-most : (c : tie.After-struct-known Inv-loop μ-loop) → c .before .index-of .result .mark ≤ 1
 mark-most c =
     let z = c .before .before .before .before .before .before .before .before .before .args in
-    rw (c .before .index-of .ensures .0) (marked-one (indexAt (z .marks .now) (z .indexes .now) (c .before .before .before .before .loop .i)))
+    rw (c .before .index-of .ensures .0)
+    (marked-one (indexAt (z .marks .now) (z .indexes .now) (c .before .before .before .before .loop .i)))
 
 add-size-3 : tie.Need-add-size-3 Inv-loop μ-loop
 add-size-3 c =
     let o = c .before .before .before .before .before .before .before .before .before in
     let z = o .args in
-    omega (arith, own-short c, mark-most c, few-elements (z .«data» .now) (z .ends .now) (z .marks .now) (z .indexes .now) (o .pre), c .before .before .before .before .loop .inv .1, c .before .before .before .before .loop .inv .0)
+    omega (
+      arith,
+      own-short c,
+      mark-most c,
+      few-elements _ (o .pre),
+      c .before .before .before .before .loop .inv .1,
+      c .before .before .before .before .loop .inv .0,
+    )
 
 add-i : tie.Need-add-i Inv-loop μ-loop
 add-i c = search needs
@@ -81,7 +89,8 @@ loop-again c =
     let l = c .before .before .before .before .loop in (
       search needs,
       omega (arith, own-short c, mark-most c, l .inv .1),
-      size-more (z .«data» .now) (z .ends .now) (z .marks .now) (z .indexes .now) (o .pre) (l .i) (search needs) _ (c .before .before .data-of .ensures) _ (c .before .index-of .ensures .0) (l .size) (l .inv .2),
+      size-more _ (o .pre) (l .i) (search needs) _ (c .before .before .data-of .ensures) _ (c .before .index-of .ensures .0) (l .size)
+          (l .inv .2),
     )
 
 returns : tie.Need-returns Inv-loop μ-loop
@@ -89,7 +98,7 @@ returns c =
     let o = c .before .before .before .before .before .before in
     let z = o .args in
     let l = c .before .loop in
-    let e = take-all (l .i) (elements (z .«data» .now) (z .ends .now) (z .marks .now) (z .indexes .now)) (omega (arith, length-elements (z .«data» .now) (z .ends .now) (z .marks .now) (z .indexes .now) (o .pre))) in
+    let e = take-all (l .i) (elements (lentNow z.«data» z.ends z.marks z.indexes)) (omega (arith, length-elements _ (o .pre))) in
     (rw e at (l .inv .2), search needs)
 
 pub elements-size-spec : {M : Type 1} → statement M

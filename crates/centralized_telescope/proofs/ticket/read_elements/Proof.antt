@@ -4,12 +4,14 @@ use Prim.Native.Nat.{_+_, _-_, _<_}
 use native.Mathlib.Omega.{arith}
 use borrow.Author.Needs.{needs}
 use lib.ListN.{length, take, drop, length-set}
-use Rattle.centralized_telescope.specs.ProofList.{listOver}
+use Rattle.centralized_telescope.specs.Elements.{lentOf}
+use Rattle.centralized_telescope.specs.ProofList.{listOver, withBuffers}
 use Rattle.centralized_telescope.specs.Blocks.{bodiesOf}
-use Rattle.centralized_telescope.specs.inner.TicketReading.{listed, HeadIs}
+use Rattle.centralized_telescope.specs.inner.TicketReading.{HeadIs}
 use Rattle.centralized_telescope.specs.laws.TestLaws.{not-both}
 use Rattle.centralized_telescope.proofs.ProofWriting.{none-written}
-use Rattle.centralized_telescope.proofs.TicketReading.{Passed, none-passed, one-passed, inside-passed, elementsOf, Rest, none-read, rest-more, one-read, all-read}
+use Rattle.centralized_telescope.proofs.TicketReading.{Passed, none-passed, one-passed, inside-passed, elementsOf, Rest, none-read}
+use Rattle.centralized_telescope.proofs.TicketReading.{rest-more, one-read, all-read}
 use Rattle.centralized_telescope.proofs.ticket.read_elements.Statement.{statement}
 use Rattle.centralized_telescope.proofs.ticket.read_elements.Tie as tie
 
@@ -21,7 +23,8 @@ Inv-loop ticket count data₀ ends₀ marks₀ indexes₀ at₀ used₀ i₀ «d
     × (length indexes ≡ length indexes₀)
     × Passed ticket count i at used
     × Rest ticket count i at
-    × (listed used «data» ends marks indexes ≡ listOver (take i (elementsOf ticket count)) data₀ ends₀ marks₀ indexes₀)
+    × (withBuffers 0 used (lentOf «data» ends marks indexes)
+    ≡ listOver (take i (elementsOf ticket count)) (lentOf data₀ ends₀ marks₀ indexes₀))
 
 abbrev μ-loop : tie.MeasureT-loop
 μ-loop ticket count data₀ ends₀ marks₀ indexes₀ at₀ used₀ i₀ «data» ends marks indexes at used i = count - i
@@ -76,7 +79,8 @@ abbrev start : tie.After-h Inv-loop μ-loop → tie.Start Inv-loop μ-loop
 start g = g .before .before .before .before .before .before .before .before .before .before
 
 -- the head is that of the element at the place, and one element more is passed
-head-is : (g : tie.After-h Inv-loop μ-loop) → HeadIs (g .h .given .0 .0) (drop (g .before .before .before .before .loop .at) (bodiesOf (start g .args .ticket .now)))
+head-is : (g : tie.After-h Inv-loop μ-loop)
+    → HeadIs (g .h .given .0 .0) (drop (g .before .before .before .before .loop .at) (bodiesOf (start g .args .ticket .now)))
 head-is g = rw (g .h .given .1) at (g .before .before .head-at .ensures)
 
 passed : (g : tie.After-h Inv-loop μ-loop)
@@ -86,7 +90,8 @@ passed g = one-passed _ _ _ _ _ (g .before .before .before .before .loop .inv .4
 
 -- there is room for it
 room : (g : tie.After-h Inv-loop μ-loop)
-    → let l = g .before .before .before .before .loop in (l .i < length (l .ends)) × (l .i < length (l .marks)) × (l .i < length (l .indexes))
+    → let l = g .before .before .before .before .loop in
+    (l .i < length (l .ends)) × (l .i < length (l .marks)) × (l .i < length (l .indexes))
 room g =
     let v = g .before .before .before .before .loop .inv in
     let q = start g .pre in
@@ -151,7 +156,8 @@ loop-again c =
       rest-more (z .ticket .now) (z .count) (l .i) (l .at) (omega arith) (v .5) h (head-is g),
       one-read (z .ticket .now) (z .count) (l .i) (l .at) (omega arith) (v .5) h (head-is g)
           (z .«data» .now) (z .ends .now) (z .marks .now) (z .indexes .now) (l .used) (l .«data») (l .ends) (l .marks) (l .indexes) _ (v .6)
-          (omega (arith, o .pre .4)) (omega (arith, o .pre .5)) (omega (arith, o .pre .6)) (c .before .before .before .before .copy-from-bodies .ensures),
+          (omega (arith, o .pre .4)) (omega (arith, o .pre .5)) (omega (arith, o .pre .6))
+          (c .before .before .before .before .copy-from-bodies .ensures),
     )
 
 same-length-5 : tie.Need-same-length-5 Inv-loop μ-loop

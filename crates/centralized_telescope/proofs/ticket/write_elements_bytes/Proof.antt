@@ -1,13 +1,14 @@
 -- `write_elements_bytes`: the first i elements stand behind what was there up to `from`.
-use mathlib.Core.Path.{_≡_, refl, sym, ap, _∙_}
+use mathlib.Core.Path.{_≡_, refl, sym}
 use mathlib.Core.List.{_++_, append-nil}
 use Prim.Native.Nat.{_-_, _+_, _≤_, _<_}
 use native.Mathlib.Omega.{arith}
 use borrow.Author.Needs.{needs}
-use lib.ListN.{length, take, drop, length-take, take-append-drop}
+use lib.ListN.{length, take, length-take, take-append-drop}
 use lib.Seq.{take-all, length-take-le}
 use Rattle.centralized_telescope.specs.Lists.{over}
-use Rattle.centralized_telescope.specs.Elements.{elements}
+use Rattle.centralized_telescope.specs.Elements.{elements, lentOf}
+use Rattle.centralized_telescope.specs.inner.ListReading.{lentNow}
 use Rattle.centralized_telescope.specs.Tickets.{elementsBytes}
 use Rattle.centralized_telescope.specs.laws.ElementsLaws.{ends-right, same-marks, same-indexes, length-elements}
 use Rattle.centralized_telescope.proofs.TicketWriting.{no-bytes, own-small, used-within, used-more, element-put}
@@ -18,8 +19,8 @@ abbrev Inv-loop : tie.InvT-loop
 Inv-loop «data» ends marks indexes from out₀ used₀ i₀ out used i =
     (i ≤ length ends)
     × (length out ≡ length out₀)
-    × (used ≡ length (take from out₀ ++ elementsBytes (take i (elements «data» ends marks indexes))))
-    × (out ≡ over (take from out₀ ++ elementsBytes (take i (elements «data» ends marks indexes))) out₀)
+    × (used ≡ length (take from out₀ ++ elementsBytes (take i (elements (lentOf «data» ends marks indexes)))))
+    × (out ≡ over (take from out₀ ++ elementsBytes (take i (elements (lentOf «data» ends marks indexes)))) out₀)
 
 abbrev μ-loop : tie.MeasureT-loop
 μ-loop «data» ends marks indexes from out₀ used₀ i₀ out used i = length ends - i
@@ -31,44 +32,53 @@ loop-holds c =
       search needs,
       refl,
       rw (no-bytes, append-nil (take (z .from) (z .out .now))) (sym (length-take-le (z .from) (z .out .now) (omega (arith, o .pre .1)))),
-      rw (no-bytes, append-nil (take (z .from) (z .out .now)), length-take-le (z .from) (z .out .now) (omega (arith, o .pre .1))) (sym (take-append-drop (z .from) (z .out .now))),
+      rw (no-bytes, append-nil (take (z .from) (z .out .now)), length-take-le (z .from) (z .out .now) (omega (arith, o .pre .1)))
+          (sym (take-append-drop (z .from) (z .out .now))),
     )
 
 data-of-requires : tie.Need-data-of-requires Inv-loop μ-loop
 data-of-requires c κs =
     let o = c .before .before .before .before .before .before .before in
     let z = o .args in
-    (ends-right (z .«data» .now) (z .ends .now) (z .marks .now) (z .indexes .now) (o .pre .0), search needs)
+    (ends-right _ (o .pre .0), search needs)
 
 index-of-requires : tie.Need-index-of-requires Inv-loop μ-loop
 index-of-requires c κs =
     let o = c .before .before .before .before .before .before .before .before in
     let z = o .args in (
-      omega (arith, same-marks (z .«data» .now) (z .ends .now) (z .marks .now) (z .indexes .now) (o .pre .0)),
-      omega (arith, same-indexes (z .«data» .now) (z .ends .now) (z .marks .now) (z .indexes .now) (o .pre .0)),
+      omega (arith, same-marks _ (o .pre .0)),
+      omega (arith, same-indexes _ (o .pre .0)),
     )
 
 element-head-requires : tie.Need-element-head-requires Inv-loop μ-loop
 element-head-requires c κs =
     let o = c .before .before .before .before .before .before .before .before .before in
     let z = o .args in
-    own-small (z .«data» .now) (z .ends .now) (z .marks .now) (z .indexes .now) (o .pre .0) (c .before .before .before .loop .i) (search needs) _ (c .before .data-of .ensures)
+    own-small _ (o .pre .0) (c .before .before .before .loop .i) (search needs) _ (c .before .data-of .ensures)
 
 -- the head is as many bytes as its length says
-head-len : (c : tie.After-bytes Inv-loop μ-loop) → length (take (c .before .element-head .result .len) (c .before .element-head .result .bytes)) ≡ c .before .element-head .result .len
+head-len : (c : tie.After-bytes Inv-loop μ-loop)
+    → length (take (c .before .element-head .result .len) (c .before .element-head .result .bytes)) ≡ c .before .element-head .result .len
 head-len c = length-take-le _ _ (c .before .element-head .ensures .0)
 
 -- there is room for head and data
-room : (c : tie.After-bytes Inv-loop μ-loop) → c .before .before .before .before .before .loop .used + c .before .element-head .result .len + length (c .before .before .before .data-of .result .now) ≤ length (c .before .before .before .before .before .before .before .before .before .before .before .args .out .now)
+room : (c : tie.After-bytes Inv-loop μ-loop)
+    → c .before .before .before .before .before .loop .used + c .before .element-head .result .len
+    + length (c .before .before .before .data-of .result .now)
+    ≤ length (c .before .before .before .before .before .before .before .before .before .before .before .args .out .now)
 room c =
     let o = c .before .before .before .before .before .before .before .before .before .before .before in
     let z = o .args in
     let l = c .before .before .before .before .before .loop in
-    let u = used-within (z .«data» .now) (z .ends .now) (z .marks .now) (z .indexes .now) (o .pre .0) (l .i) (search needs) _ (c .before .before .before .data-of .ensures) _ (c .before .before .index-of .ensures .0)
-    _ (c .before .before .index-of .ensures .1) _ (c .before .element-head .ensures .1) _ (head-len c) (take (z .from) (z .out .now)) (l .used) (l .inv .2) in
+    let u = used-within _ (o .pre .0) (l .i) (search needs) _ (c .before .before .before .data-of .ensures) _
+    (c .before .before .index-of .ensures .0)
+    _ (c .before .before .index-of .ensures .1) _ (c .before .element-head .ensures .1) _ (head-len c) (take (z .from) (z .out .now))
+    (l .used) (l .inv .2) in
     omega (arith, u, length-take (z .from) (z .out .now), o .pre .1)
 
-out-fits : (c : tie.After-bytes Inv-loop μ-loop) → length (c .before .before .before .before .before .before .before .before .before .before .before .args .out .now) < 18446744073709551616
+out-fits : (c : tie.After-bytes Inv-loop μ-loop)
+    → length (c .before .before .before .before .before .before .before .before .before .before .before .args .out .now)
+    < 18446744073709551616
 out-fits c = omega arith
 
 array-share-prefix-bytes : tie.Need-array-share-prefix-bytes Inv-loop μ-loop
@@ -78,16 +88,33 @@ slice-aggregate-copy-at : tie.Need-slice-aggregate-copy-at Inv-loop μ-loop
 slice-aggregate-copy-at c = sym (head-len (c .before))
 
 copy-at-requires : tie.Need-copy-at-requires Inv-loop μ-loop
-copy-at-requires c κs = omega (arith, head-len (c .before .before), room (c .before .before), c .before .before .before .before .before .before .before .loop .inv .1)
+copy-at-requires c κs =
+    omega (
+      arith,
+      head-len (c .before .before),
+      room (c .before .before),
+      c .before .before .before .before .before .before .before .loop .inv .1,
+    )
 
 add-used : tie.Need-add-used Inv-loop μ-loop
 add-used c = omega (arith, room (c .before .before .before .before .before))
 
 copy-at-requires-2 : tie.Need-copy-at-requires-2 Inv-loop μ-loop
-copy-at-requires-2 c κs = omega (arith, room (c .before .before .before .before .before .before), c .before .before .before .before .before .before .before .before .before .before .before .loop .inv .1, c .before .before .before .copy-at .kept .1 .1 .0)
+copy-at-requires-2 c κs =
+    omega (
+      arith,
+      room (c .before .before .before .before .before .before),
+      c .before .before .before .before .before .before .before .before .before .before .before .loop .inv .1,
+      c .before .before .before .copy-at .kept .1 .1 .0,
+    )
 
 add-used-2 : tie.Need-add-used-2 Inv-loop μ-loop
-add-used-2 c = omega (arith, room (c .before .before .before .before .before .before .before .before .before), out-fits (c .before .before .before .before .before .before .before .before .before))
+add-used-2 c =
+    omega (
+      arith,
+      room (c .before .before .before .before .before .before .before .before .before),
+      out-fits (c .before .before .before .before .before .before .before .before .before),
+    )
 
 add-i : tie.Need-add-i Inv-loop μ-loop
 add-i c = search needs
@@ -97,17 +124,26 @@ loop-less c = search needs
 
 loop-again : tie.Need-loop-again Inv-loop μ-loop
 loop-again c =
-    let o = c .before .before .before .before .before .before .before .before .before .before .before .before .before .before .before .before .before .before .before .before in
+    let o = c .before .before .before .before .before .before .before .before .before .before .before .before .before .before .before
+    .before .before .before .before .before in
     let z = o .args in
     let l = c .before .before .before .before .before .before .before .before .before .before .before .before .before .before .loop in
     let b = c .before .before .before .before .before .before .before .before .before in
     let e = b .before .element-head in (
       search needs,
-      omega (arith, l .inv .1, c .before .before .before .before .before .before .copy-at .kept .1 .1 .0, c .before .before .copy-at2 .kept .1 .1 .0),
-      used-more (z .«data» .now) (z .ends .now) (z .marks .now) (z .indexes .now) (o .pre .0) (l .i) (search needs) _ (b .before .before .before .data-of .ensures) _ (b .before .before .index-of .ensures .0)
+      omega (
+        arith,
+        l .inv .1,
+        c .before .before .before .before .before .before .copy-at .kept .1 .1 .0,
+        c .before .before .copy-at2 .kept .1 .1 .0,
+      ),
+      used-more _ (o .pre .0) (l .i) (search needs) _ (b .before .before .before .data-of .ensures) _
+          (b .before .before .index-of .ensures .0)
           _ (b .before .before .index-of .ensures .1) _ (e .ensures .1) _ (head-len b) (take (z .from) (z .out .now)) (l .used) (l .inv .2),
-      element-put (z .«data» .now) (z .ends .now) (z .marks .now) (z .indexes .now) (o .pre .0) (l .i) (search needs) _ (b .before .before .before .data-of .ensures) _ (b .before .before .index-of .ensures .0)
-          _ (b .before .before .index-of .ensures .1) _ (e .ensures .1) _ (head-len b) (take (z .from) (z .out .now)) (l .used) (l .inv .2) (z .out .now) _ _ _ (l .inv .3)
+      element-put _ (o .pre .0) (l .i) (search needs) _ (b .before .before .before .data-of .ensures) _
+          (b .before .before .index-of .ensures .0)
+          _ (b .before .before .index-of .ensures .1) _ (e .ensures .1) _ (head-len b) (take (z .from) (z .out .now)) (l .used) (l .inv .2)
+          (z .out .now) _ _ _ (l .inv .3)
           (c .before .before .before .before .before .before .copy-at .ensures) (c .before .before .copy-at2 .ensures),
     )
 
@@ -119,7 +155,7 @@ returns c =
     let o = c .before .before .before .before .before .before .before in
     let z = o .args in
     let l = c .before .loop in
-    let e = take-all (l .i) (elements (z .«data» .now) (z .ends .now) (z .marks .now) (z .indexes .now)) (omega (arith, length-elements (z .«data» .now) (z .ends .now) (z .marks .now) (z .indexes .now) (o .pre .0))) in
+    let e = take-all (l .i) (elements (lentNow z.«data» z.ends z.marks z.indexes)) (omega (arith, length-elements _ (o .pre .0))) in
     rw e at (l .inv .3)
 
 pub write-elements-bytes-spec : {M : Type 1} → statement M

@@ -4,7 +4,8 @@ use Prim.Native.Nat.{ℕ, _+_, _≤_}
 use native.Mathlib.Omega.{arith}
 use borrow.Author.Needs.{needs}
 use lib.ListN.{length}
-use Rattle.centralized_telescope.specs.Elements.{elements, listCheck, listNumber}
+use Rattle.centralized_telescope.specs.Elements.{elements, listCheck, listNumber, lentOf}
+use Rattle.centralized_telescope.specs.inner.ListReading.{lentNow}
 use Rattle.centralized_telescope.specs.Blocks.{blockCount}
 use Rattle.centralized_telescope.specs.Tickets.{content}
 use Rattle.centralized_telescope.specs.laws.ElementsLaws.{few-elements}
@@ -14,22 +15,31 @@ use Rattle.centralized_telescope.proofs.ticket.write_ticket.Statement.{
 use Rattle.centralized_telescope.proofs.ticket.write_ticket.Tie as tie
 
 -- the list is accepted
-accepted : (s : tie.After-enum-told) → listCheck (s .before .before .before .before .before .before .before .before .args .«data» .now) (s .before .before .before .before .before .before .before .before .args .ends .now) (s .before .before .before .before .before .before .before .before .args .marks .now) (s .before .before .before .before .before .before .before .before .args .indexes .now) ≡ 0
+accepted : (s : tie.After-enum-told)
+    → listCheck (lentOf (s .before .before .before .before .before .before .before .before .args .«data» .now)
+    (s .before .before .before .before .before .before .before .before .args .ends .now)
+    (s .before .before .before .before .before .before .before .before .args .marks .now)
+    (s .before .before .before .before .before .before .before .before .args .indexes .now)) ≡ 0
 accepted s = sym (s .before .before .check-list .ensures) ∙ ap listNumber (s .enum-told .given .1)
 
 -- 24 and the size that was worked out are the content's length
 size-is : (s : tie.After-elements-size) → 24 + s .elements-size .result
-    ≡ length (content (s .before .before .before .before .before .before .before .before .before .args .retry-counter .0) (s .before .before .before .before .before .before .before .before .before .args .search-counter .0) (elements (s .before .before .before .before .before .before .before .before .before .args .«data» .now) (s .before .before .before .before .before .before .before .before .before .args .ends .now) (s .before .before .before .before .before .before .before .before .before .args .marks .now) (s .before .before .before .before .before .before .before .before .before .args .indexes .now)))
+    ≡ length (content (s .before .before .before .before .before .before .before .before .before .args .retry-counter .0)
+    (s .before .before .before .before .before .before .before .before .before .args .search-counter .0)
+    (elements (lentOf (s .before .before .before .before .before .before .before .before .before .args .«data» .now)
+    (s .before .before .before .before .before .before .before .before .before .args .ends .now)
+    (s .before .before .before .before .before .before .before .before .before .args .marks .now)
+    (s .before .before .before .before .before .before .before .before .before .args .indexes .now))))
 size-is s =
     let z = s .before .before .before .before .before .before .before .before .before .args in
-    let es = elements (z .«data» .now) (z .ends .now) (z .marks .now) (z .indexes .now) in
+    let es = elements (lentNow z.«data» z.ends z.marks z.indexes) in
     omega (arith, s .elements-size .ensures .0, content-length (z .retry-counter .0) (z .search-counter .0) es)
 
 -- and small
 size-most : (s : tie.After-elements-size) → s .elements-size .result ≤ 269287424
 size-most s =
     let z = s .before .before .before .before .before .before .before .before .before .args in
-    omega (arith, s .elements-size .ensures .1, few-elements (z .«data» .now) (z .ends .now) (z .marks .now) (z .indexes .now) (accepted (s .before)))
+    omega (arith, s .elements-size .ensures .1, few-elements _ (accepted (s .before)))
 
 check-list-requires : tie.Need-check-list-requires
 check-list-requires c κs = search needs
@@ -43,7 +53,7 @@ enum-known-k c = search needs
 returns : tie.Need-returns
 returns c =
     let z = c .before .before .before .before .before .before .before .before .before .args in
-    write-refused (z .retry-counter .0) (z .search-counter .0) (z .«data» .now) (z .ends .now) (z .marks .now) (z .indexes .now) (z .ticket .now)
+    write-refused (z .retry-counter .0) (z .search-counter .0) (lentNow z.«data» z.ends z.marks z.indexes) (z .ticket .now)
     (c .before .k .given .0 .0) (sym (c .before .before .before .check-list .ensures) ∙ ap listNumber (c .before .k .given .1))
 
 elements-size-requires : tie.Need-elements-size-requires
@@ -61,7 +71,7 @@ mul-if1 c = omega (arith, size-most c)
 returns-2 : tie.Need-returns-2
 returns-2 c =
     let z = c .before .before .before .before .before .before .before .before .before .before .args in
-    write-short (z .retry-counter .0) (z .search-counter .0) (z .«data» .now) (z .ends .now) (z .marks .now) (z .indexes .now) (z .ticket .now)
+    write-short (z .retry-counter .0) (z .search-counter .0) (lentNow z.«data» z.ends z.marks z.indexes) (z .ticket .now)
     (accepted (c .before .before)) _ (size-is (c .before)) (c .if1 .taken)
 
 write-content-requires : tie.Need-write-content-requires
@@ -96,8 +106,11 @@ returns-3 : tie.Need-returns-3
 returns-3 c =
     let s = c .before .before .before .before .before .before .before .before .before .before .before .before .before in
     let z = s .before .before .before .before .before .before .before .before .before .args in
-    write-done (z .retry-counter .0) (z .search-counter .0) (z .«data» .now) (z .ends .now) (z .marks .now) (z .indexes .now) (z .ticket .now)
-    (accepted (s .before)) _ (size-is s) (c .before .before .before .before .before .before .before .before .before .before .before .before .if1 .left) _ _ (c .before .before .before .before .before .before .before .before .before .before .write-content .ensures) (c .before .before .before .before .before .before .fill-zeros .ensures) _ (c .before .before .seal .ensures)
+    write-done (z .retry-counter .0) (z .search-counter .0) (lentNow z.«data» z.ends z.marks z.indexes) (z .ticket .now)
+    (accepted (s .before)) _ (size-is s)
+    (c .before .before .before .before .before .before .before .before .before .before .before .before .if1 .left) _ _
+    (c .before .before .before .before .before .before .before .before .before .before .write-content .ensures)
+    (c .before .before .before .before .before .before .fill-zeros .ensures) _ (c .before .before .seal .ensures)
 
 pub write-ticket-spec : {M : Type 1} → statement M
 write-ticket-spec =

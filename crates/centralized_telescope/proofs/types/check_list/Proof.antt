@@ -1,5 +1,6 @@
 -- `check_list`: the answer by what is found.
 use mathlib.Core.Path.{refl, _∙_}
+use Rattle.centralized_telescope.specs.inner.ListReading.{lentNow}
 use Rattle.centralized_telescope.proofs.ListAnswers.{found}
 use borrow.Author.Needs.{needs}
 use Rattle.centralized_telescope.proofs.types.check_list.Statement.{statement}
@@ -21,7 +22,7 @@ returns : tie.Need-returns
 returns c =
     let a = c .before .before .before .before .before .before .before .before .args in
     c .list-answer .ensures
-    ∙ found (a .«data» .now) (a .ends .now) (a .marks .now) (a .indexes .now) _ _ _ _ _ refl refl (c .before .before .before .some-mark-over .ensures)
+    ∙ found (lentNow a.«data» a.ends a.marks a.indexes) _ _ _ _ _ refl refl (c .before .before .before .some-mark-over .ensures)
     (c .before .before .some-end-wrong .ensures) (c .before .some-data-long .ensures)
 
 pub check-list-spec : {M : Type 1} → statement M
