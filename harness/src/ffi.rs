@@ -3,8 +3,8 @@
 //! Nothing checks these declarations against the library, so they are few, and on numbers and bytes alone. A slice passes as a pointer
 //! and then a length. No call has a precondition: whatever is lent, the answer is one of the numbers named here.
 
-use crate::proof_size::Figures;
-use crate::threshold::{self, Threshold};
+use crate::model::proof_size::Figures;
+use crate::model::threshold::{self, Threshold};
 
 #[rustfmt::skip]
 extern "C" {

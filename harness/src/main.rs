@@ -9,16 +9,14 @@ mod bench;
 mod big;
 mod compare;
 mod ffi;
+mod green;
 mod list;
 mod load;
 mod model;
 mod original;
-mod proof_size;
 mod rng;
 mod sizes;
 mod stack;
-mod threshold;
-mod ticket;
 mod turning;
 
 use args::Command;
@@ -53,7 +51,7 @@ fn main() -> ExitCode {
         Command::Compare(options) => compare::run(&options),
         Command::Load(options) => load::run(&options),
         Command::Sizes(options) => sizes::run(&options),
-        Command::Model(options) => model::run(&options),
+        Command::Model(options) => green::run(&options),
         Command::Answers(seed) => answers::run(seed),
         Command::Bench(part) => bench::run(part),
         Command::Stack(depth) => stack::run(depth),

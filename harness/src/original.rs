@@ -1,8 +1,8 @@
 //! The Rust's prover and verifier, their answers by the specification's numbers.
 
 use crate::ffi::{self, Settings};
-use crate::proof_size::Figures;
-use crate::threshold::Threshold::OfQ;
+use crate::model::proof_size::Figures;
+use crate::model::threshold::Threshold::OfQ;
 use oracle::centralized_telescope::{params::Params, proof::Proof, telescope::Telescope};
 use oracle::utils::errors::{ProofGenerationError, VerificationError};
 use oracle::utils::types::Element;

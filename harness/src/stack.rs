@@ -3,7 +3,7 @@
 //! Each search runs in a process of its own, on its first thread, whose stack the system limits and below which it leaves a wide gap:
 //! beyond its limit a process is always stopped.
 
-use crate::{args::SEARCH, ffi, ffi::Settings, list::List, threshold::Threshold::OfQ};
+use crate::{args::SEARCH, ffi, ffi::Settings, list::List, model::threshold::Threshold::OfQ};
 use std::process::{Command, Stdio};
 
 /// In kilobytes: the greatest limit tried, and how near the answer is.

@@ -1,7 +1,7 @@
 //! Where the size turns: with t(u) = (n / f)^u × log2 e / 32 the inequality for the size u is c × 2^s ≤ t(u). Here t(u) is kept to fifty
 //! binary digits, so that most figures need no greater numbers, and those just beside it can be looked for.
 
-use crate::proof_size::{MOST, MOST_C, MOST_S};
+use crate::model::proof_size::{MOST, MOST_C, MOST_S};
 use std::cmp::Ordering;
 
 /// A number above 0, rounded down a little: `digits`, the highest of its 64 bits set, times 2^`exponent`.
@@ -11,8 +11,9 @@ pub struct Rounded {
     exponent: i64,
 }
 
-/// Digits that differ by no more leave open which number is the greater. A t(u) takes up to 1,024 products, each of which rounds twice
-/// by less than a 2^63rd, and its start another two, or four: all together less than a 2^51st, so less than 2^14 of the 2^65 that are compared.
+/// Digits that differ by no more leave open which number is the greater. A t(u) takes up to 1,024 products, each of which rounds twice by
+/// less than a 2^63rd, and its start another two, or four: all together less than a 2^51st, so less than 2^14 of the 2^65 that are
+/// compared.
 const CLOSE: u128 = 1 << 15;
 /// The bits of the digits below the ten that a c may have.
 const BELOW_C: u32 = 54;
@@ -119,7 +120,7 @@ fn each_lawful(c: u64, exponent: i64, mut visit: impl FnMut(u64, u64)) {
 #[cfg(test)]
 mod tests {
     use super::*;
-    use crate::proof_size::{meets, Figures, Log2E};
+    use crate::model::proof_size::{meets, Figures, Log2E};
     use crate::rng::Rng;
 
     /// What is told is what whole numbers say.

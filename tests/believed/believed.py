@@ -10,6 +10,24 @@ from dataclasses import dataclass, field
 from pathlib import Path
 
 CRATES = ("sampling", "centralized_telescope", "soundness")
+# The folders of specs/ that hold definitions: the core, and what was asked later. A crate may have its definitions in specs/ itself.
+CORE, LATER = "core", "later"
+TIERS = (CORE, LATER, "")
+# The contracts that the core is for, CRATE/MODULE::NAME: a definition that none of them reaches is no part of it.
+CORE_CALLS = (
+    "sampling/sha256::sha256",
+    "sampling/sample::sample_uniform",
+    "sampling/sample::sample_bernoulli",
+    "sampling/exports::alba_sample_uniform",
+    "sampling/exports::alba_sample_bernoulli",
+    "centralized_telescope/params::check_params",
+    "centralized_telescope/types::check_list",
+    "centralized_telescope/telescope::prove",
+    "centralized_telescope/telescope::verify",
+    "centralized_telescope/exports::alba_verify",
+    "centralized_telescope/theorems::demand_3",
+    "centralized_telescope/theorems::served_example",
+)
 
 
 class Stop(Exception):
@@ -30,7 +48,7 @@ class Found:
     public: set[tuple[str, str]] = field(default_factory=set)  # (CRATE/MODULE, function or type, or * for all of it)
     missing: dict[str, None] = field(default_factory=dict)  # public functions that no file has shown yet
     functions: dict[str, str] = field(default_factory=dict)  # public functions, CRATE/MODULE::[TYPE::]NAME: their file
-    starts: list[tuple[str, str]] = field(default_factory=list)  # (file, a line of a contract)
+    starts: list[tuple[str, str, str]] = field(default_factory=list)  # (file, a line of a contract, the function)
     order: list[str] = field(default_factory=list)  # the homes in reading order
     home: dict[str, str] = field(default_factory=dict)
     file: dict[str, str] = field(default_factory=dict)
@@ -53,7 +71,7 @@ class Reading:
         self.module = re.sub(r"\.[a-z]+$", "", rest).replace("/", ".")
         self.own = f"{self.crate}/{self.module}"
         self.ours = self.crate in CRATES
-        self.name = self.within = self.type = ""
+        self.name = self.within = self.type = self.called = ""
         self.header = self.contract = False
 
     def line(self, number: int, line: str) -> None:
@@ -103,7 +121,7 @@ class Reading:
         if self.header and re.search(r"\{\}?$", line):
             self.header = False
         if self.header and self.contract:
-            self.found.starts.append((self.path, line))
+            self.found.starts.append((self.path, line, self.called))
 
     def makes_public(self, line: str) -> None:
         part = words(line.replace(";", "").replace("::", " ", 1))
@@ -119,13 +137,15 @@ class Reading:
         self.contract = False
         self.found.missing.pop(f"{self.own}::{name}", None)
         if self.header:
-            self.found.functions["::".join(filter(None, (self.own, self.type, name)))] = self.path
+            self.called = "::".join(filter(None, (self.own, self.type, name)))
+            self.found.functions[self.called] = self.path
 
     def specification(self, number: int, line: str) -> None:
         """specs/: the definitions with their lines, and in which order the files stand."""
         if line.startswith("pub mod "):
-            if self.module == "Lib":
-                self.found.order.append(f"{self.crate}/{words(line)[2]}")
+            if self.module in ("Lib", CORE, LATER):
+                below = "" if self.module == "Lib" else f"{self.module}."
+                self.found.order.append(f"{self.crate}/{below}{words(line)[2]}")
             return
         if re.match(r" *(--|$)", line):
             return
@@ -160,6 +180,7 @@ class Reading:
 def files_of(crates: Path) -> list[str]:
     """All files, below crates/: first those that say in which order to read and what is public."""
     first = [f"{crate}/{name}" for crate in CRATES for name in ("specs/Lib.antt", "src/lib.rt")]
+    first += [path for tier in (CORE, LATER) for crate in CRATES if (crates / (path := f"{crate}/specs/{tier}.antt")).exists()]
     rest = {
         path.relative_to(crates).as_posix()
         for folder in ("src", "specs", "proofs")
@@ -201,8 +222,20 @@ def meant(found: Found, path: str, owner: str, text: str) -> list[str]:
     return [meaning(found, path, owner, word.removesuffix(".")) for word in plain.split(" ") if word.removesuffix(".")]
 
 
-def reached_from(found: Found, also: list[str]) -> set[str]:
-    queue = [definition for path, line in found.starts for definition in meant(found, path, "", line)]
+def tier(home: str) -> str:
+    """The folder of specs/ that a home, CRATE/[FOLDER.]MODULE, stands in, or nothing."""
+    folder, dot, _ = home.partition("/")[2].rpartition(".")
+    return folder if dot else ""
+
+
+def reached_from(found: Found, also: list[str], calls: tuple[str, ...] = ()) -> set[str]:
+    """What the contracts reach: of all that is public, or of some calls."""
+    queue = [
+        definition
+        for path, line, function in found.starts
+        if not calls or function in calls
+        for definition in meant(found, path, "", line)
+    ]
     for definition in also:
         if definition not in found.home:
             raise Stop(f"there is no definition {definition}")
@@ -236,13 +269,17 @@ class Count:
         for definition in self.reached:
             self.lines[found.home[definition]] += found.lines[definition]
             self.number[found.home[definition]] += ".module at " not in definition
+        self.of_core = reached_from(found, [], CORE_CALLS)
         self.left = [definition for definition in found.known if definition not in self.reached]
         for definition in self.left:
             self.beside[found.home[definition]] += found.lines[definition]
 
     def rows(self) -> list[Row]:
-        homes = dict.fromkeys(home for home in self.found.order if home in self.lines)
-        return [Row(home.replace("/", "/specs/", 1) + ".antt", self.lines[home], self.number[home], self.beside[home]) for home in homes]
+        homes = sorted(dict.fromkeys(home for home in self.found.order if home in self.lines), key=lambda home: TIERS.index(tier(home)))
+        return [Row(self.file(home), self.lines[home], self.number[home], self.beside[home]) for home in homes]
+
+    def file(self, home: str) -> str:
+        return home.replace("/", "/specs/", 1).replace(".", "/") + ".antt"
 
     def place(self, definition: str) -> str:
         return f"{self.found.file[definition]} {definition.removeprefix(self.found.home[definition] + '.')}"
@@ -251,7 +288,7 @@ class Count:
         """What stands in specs/ itself and nothing public needs."""
         said = []
         for definition in self.left:
-            if "." not in self.found.home[definition]:
+            if tier(self.found.home[definition]) in TIERS:
                 by = " ".join(self.found.importers.get(definition, ["nothing imports it"]))
                 said.append(f"{self.place(definition)}, {self.found.lines[definition]} lines: {by}")
         return said
@@ -261,14 +298,30 @@ class Count:
         return [
             f"{self.place(definition)}: reached, but outside the reading order"
             for definition in self.found.home
-            if definition in self.reached and "." in self.found.home[definition]
+            if definition in self.reached and tier(self.found.home[definition]) not in TIERS
         ]
+
+    def misplaced(self) -> list[str]:
+        """The core is what its calls reach, no less and no more."""
+        said = []
+        for definition in self.found.known:
+            in_core = tier(self.found.home[definition]) == CORE
+            if definition in self.of_core and tier(self.found.home[definition]) == LATER:
+                said.append(f"{self.place(definition)}: the core reaches it")
+            elif definition in self.reached and in_core and definition not in self.of_core:
+                said.append(f"{self.place(definition)}: no call of the core reaches it")
+        return said
+
+
+def summed(name: str, rows: list[Row]) -> Row:
+    return Row(name, sum(row.reached for row in rows), sum(row.definitions for row in rows), sum(row.beside for row in rows))
 
 
 def table(rows: list[Row]) -> list[str]:
-    sums = Row("in all", sum(row.reached for row in rows), sum(row.definitions for row in rows), sum(row.beside for row in rows))
+    core = [row for row in rows if f"/specs/{CORE}/" in row.file]
+    sums = ([summed("in the core", core)] if core else []) + [summed("in all", rows)]
     return ["reached  definitions  beside  file"] + [
-        f"{row.reached:7d}  {row.definitions:11d}  {row.beside:6d}  {row.file}" for row in [*rows, sums]
+        f"{row.reached:7d}  {row.definitions:11d}  {row.beside:6d}  {row.file}" for row in [*rows, *sums]
     ]
 
 
@@ -300,7 +353,7 @@ def main(arguments: list[str]) -> int:
     except Stop as stop:
         print(f"tests/believed/run: {stop}", file=sys.stderr)
         return stop.status
-    wrong = (count.unreached() if unreached else []) + count.outside()
+    wrong = (count.unreached() if unreached else []) + count.outside() + count.misplaced()
     for line in wrong + ([] if unreached else table(count.rows())):
         print(line)
     return 1 if wrong else 0

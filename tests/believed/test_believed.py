@@ -5,11 +5,12 @@ import io
 import sys
 import tempfile
 import unittest
+import unittest.mock
 from pathlib import Path
 
 sys.dont_write_bytecode = True
 sys.path.insert(0, str(Path(__file__).resolve().parent))
-from believed import CRATES, Count, Stop, main  # noqa: E402
+from believed import CRATES, Count, Stop, main, table  # noqa: E402
 
 LIB = "mod door;\n\npub use door::open;\n"
 DOOR = """ghost use Rattle.sampling.specs.Words.{opened};
@@ -124,6 +125,34 @@ class Tree(unittest.TestCase):
         self.put("sampling/specs/laws/More.antt", "pub law : ℕ\nlaw = 1\n")
         self.put("sampling/specs/Words.antt", "use Rattle.sampling.specs.laws.More.{law}\n" + WORDS.replace("half x --", "law --"))
         self.assertEqual(self.count().outside(), ["sampling/specs/laws/More.antt law: reached, but outside the reading order"])
+
+    def tiers(self, core, later):
+        """`open` is a call of the core here: core/Words has what it says, later/More another definition."""
+        Path(self.folder.name, "crates/sampling/specs/Words.antt").unlink()
+        self.put("sampling/specs/Lib.antt", "pub mod core\npub mod later\n")
+        self.put("sampling/specs/core.antt", "pub mod Words\n")
+        self.put("sampling/specs/later.antt", "pub mod More\n")
+        self.put("sampling/specs/core/Words.antt", core)
+        self.put("sampling/specs/later/More.antt", later)
+        self.put("sampling/src/door.rt", DOOR.replace("specs.Words", "specs.core.Words"))
+        with unittest.mock.patch("believed.CORE_CALLS", ("sampling/door::open",)):
+            return self.count("sampling/later.More.more")
+
+    def test_the_core_comes_first_and_has_a_sum_of_its_own(self):
+        count = self.tiers("abbrev pub opened : ℕ → ℕ\nopened x = x\n", "abbrev pub more : ℕ\nmore = 1\n")
+        self.assertEqual([row.file for row in count.rows()], ["sampling/specs/core/Words.antt", "sampling/specs/later/More.antt"])
+        self.assertEqual(table(count.rows())[-2:], ["      2            1       0  in the core", "      4            2       0  in all"])
+        self.assertEqual((count.misplaced(), count.unreached(), count.outside()), ([], [], []))
+
+    def test_what_the_core_reaches_is_in_the_core(self):
+        core = "use Rattle.sampling.specs.later.More.{more}\nabbrev pub opened : ℕ → ℕ\nopened x = more\n"
+        count = self.tiers(core, "abbrev pub more : ℕ\nmore = 1\n")
+        self.assertEqual(count.misplaced(), ["sampling/specs/later/More.antt more: the core reaches it"])
+
+    def test_what_no_call_of_the_core_reaches_is_not(self):
+        later = "use Rattle.sampling.specs.core.Words.{half}\nabbrev pub more : ℕ\nmore = half 1\n"
+        count = self.tiers("abbrev pub opened : ℕ → ℕ\nopened x = x\n\nabbrev pub half : ℕ → ℕ\nhalf x = x\n", later)
+        self.assertEqual(count.misplaced(), ["sampling/specs/core/Words.antt half: no call of the core reaches it"])
 
     def test_an_import_over_two_lines_is_refused(self):
         self.put("sampling/proofs/Use.antt", "use Rattle.sampling.specs.Words.{half,\n  spare}\n")

@@ -24,7 +24,7 @@ def wrong(tree: Tree) -> list[tuple[str, int, str]]:
     found[readme] += pages.wrong_calls(tree, text[readme], "Call", 2)
     found[readme] += numbers.said_in_readme(tree, text[readme])
     found["tests/wrong_programs"] = [(0, f"no page names {name}") for name in pages.unnamed_edits(tree, text[trace], text[reading])]
-    found["tests/wrong_programs"] += [*numbers.theorems_tried(tree), *numbers.demand_tried(tree)]
+    found["tests/wrong_programs"] += [*pages.wrong_rooms(tree), *numbers.theorems_tried(tree), *numbers.demand_tried(tree)]
     return [(page, *one) for page, of in found.items() for one in sorted(of)]
 
 

@@ -152,7 +152,7 @@ def wrong_names_read(tree: Tree, text: str) -> Iterator[Wrong]:
         if row.head[0] == "The Rust":
             cell, below, end = row.cells[1], "crates/*/src/", ""
         elif row.head[0] == "Definition":
-            cell, below, end = row.cells[0], "crates/*/specs/", ".antt"
+            cell, below, end = row.cells[0], "crates/*/specs/**/", ".antt"
         else:
             continue
         for names, files in grouped(cell):
@@ -247,6 +247,13 @@ def wrong_edits_named(tree: Tree, text: str) -> Iterator[Wrong]:
         for name in re.findall(r"(?<![\w/])([a-z0-9_*]+)\.edit\b", line):
             if not matching(tree, name.replace("*", "..")):
                 yield number, f"there is no edit {name}"
+
+
+def wrong_rooms(tree: Tree) -> Iterator[Wrong]:
+    for edit, room in tree.edits_out_of_room():
+        yield 0, f"{edit.name} doesn't stand in {room}, where tests/wrong_programs/rooms moves it"
+    for name in tree.edits_named_twice():
+        yield 0, f"two edits are named {name}"
 
 
 def unnamed_edits(tree: Tree, *texts: str) -> list[str]:

@@ -34,13 +34,13 @@ FILES = {
     "translate/wrong_translations": 'OTHER = (1,)\nWRONG = (\n    ("one", "a", "b"),\n    ("two", "a", "b"),\n)\n',
     "harness/src/main.rs": "Command::Compare => compare(),\n",
     "crates/sampling/must-fail/open_left.edit": "file: src/door.rt\nold: x\nnew: y\nfirst: a b\n",
-    "tests/wrong_programs/sampling/open_shut.edit": "file: src/door.rt\nold: x\nnew: y\nfirst: a b\n",
-    "tests/wrong_programs/sampling/open_late.edit": "file: src/door.rt\nold: x\nnew: y\nfirst: a b\ngate: no\n",
-    "tests/wrong_programs/centralized_telescope/demand3_one.edit": "file: specs/Demand3.antt\n"
+    "tests/wrong_programs/sampling/door/open_shut.edit": "file: src/door.rt\nold: x\nnew: y\nfirst: a b\n",
+    "tests/wrong_programs/sampling/door/open_late.edit": "file: src/door.rt\nold: x\nnew: y\nfirst: a b\ngate: no\n",
+    "tests/wrong_programs/centralized_telescope/demand_3/demand3_one.edit": "file: specs/Demand3.antt\n"
     "old: x ≡ 1\nnew: x ≡ 3\nown: a b\ntheorem: demand_3\n",
-    "tests/wrong_programs/centralized_telescope/demand3_two.edit": "file: specs/Demand3.antt\n"
+    "tests/wrong_programs/centralized_telescope/demand_3/demand3_two.edit": "file: specs/Demand3.antt\n"
     "old: x ≡ 2\nnew: x ≡ 3\nown: a b\ntheorem: demand_3\n",
-    "tests/wrong_programs/soundness/green_not.edit": "file: specs/Green.antt\nold: ℕ\nnew: ⊥\nown: a b\ntheorem: is_green\n",
+    "tests/wrong_programs/soundness/is_green/green_not.edit": "file: specs/Green.antt\nold: ℕ\nnew: ⊥\nown: a b\ntheorem: is_green\n",
     "README.md": """# Doors
 
 The prover refuses five of what it may, to refuse 5 of the 6 wrong programs. See [the trace](docs/TRACE.md), src/door.rt and target/none.
@@ -63,7 +63,7 @@ The prover refuses five of what it may, to refuse 5 of the 6 wrong programs. See
 | № | Subject | Carried by |
 |---|---|---|
 | 1 | opens | definition `opened`, crates/sampling/specs/Words.antt; contract of `open`, crates/sampling/src/door.rt, by `latch` |
-| 2 | shuts | refused: tests/wrong_programs/sampling/open_shut.edit, open_late.edit; run: `harness compare` |
+| 2 | shuts | refused: tests/wrong_programs/sampling/door/open_shut.edit, open_late.edit; run: `harness compare` |
 
 ## Demand 3
 
@@ -75,7 +75,7 @@ All that the third column names stands in crates/centralized_telescope/specs/Dem
 """,
     "docs/READING.md": """# Reading
 
-In `specs/` themselves: 7 lines in 3 definitions, and 2 lines in 1 definitions of crates/soundness/specs, then one contracts in its
+What has to be believed of the two crates is there: 7 lines in 3 definitions, 0 of these lines in the core, and 2 lines in 1 definitions of crates/soundness/specs, then one contracts in its
 src/theorems.rt. Of the one functions of crates/centralized_telescope/src/theorems.rt, `demand_3`; then `is_green`.
 
 | Minutes | Lines | File, below `crates/` | What it says |
@@ -187,8 +187,15 @@ class Made(unittest.TestCase):
         self.assertEqual(self.said("docs/READING.md", "open_shut (W)", "open_shut (M)"), said)
 
     def test_an_edit_that_no_page_names(self):
-        self.put("tests/wrong_programs/sampling/open_new.edit", "gate: no\n")
+        self.put("tests/wrong_programs/sampling/door/open_new.edit", "gate: no\n")
         self.assertIn("tests/wrong_programs: no page names open_new", self.said())
+
+    def test_rooms(self):
+        (self.top / "tests/wrong_programs/sampling/door/open_shut.edit").rename(self.top / "tests/wrong_programs/sampling/open_shut.edit")
+        said = "open_shut doesn't stand in tests/wrong_programs/sampling/door, where tests/wrong_programs/rooms moves it"
+        self.assertIn(f"tests/wrong_programs: {said}", self.said())
+        self.put("tests/wrong_programs/sampling/door/open_left.edit", "file: src/door.rt\nold: x\nnew: y\nfirst: a b\n")
+        self.assertIn("tests/wrong_programs: two edits are named open_left", self.said())
 
     def test_how_a_cell_names_edits(self):
         cell = "of these (W, named big_..): one_a, two_b. Of those a_b (M), c_.. and `not_this`, d_.._e (W); also f_g"
@@ -248,20 +255,20 @@ class Made(unittest.TestCase):
 
     def test_two_for_each_call(self):
         self.put("README.md", FILES["README.md"].replace("refuse 5", "refuse 4"))
-        said = self.said("tests/wrong_programs/sampling/open_shut.edit", "first: a b\n", "first: a b\ngate: no\n")
+        said = self.said("tests/wrong_programs/sampling/door/open_shut.edit", "first: a b\n", "first: a b\ngate: no\n")
         self.assertEqual(said, ["docs/READING.md: of the wrong programs of `open` (open_left ..) the gate tries 1, not two"])
 
     def test_one_for_each_theorem(self):
         self.put("README.md", FILES["README.md"].replace("refuse 5", "refuse 4"))
-        said = self.said("tests/wrong_programs/soundness/green_not.edit", "own: a b\n", "own: a b\ngate: no\n")
+        said = self.said("tests/wrong_programs/soundness/is_green/green_not.edit", "own: a b\n", "own: a b\ngate: no\n")
         self.assertEqual(said, ["tests/wrong_programs: the gate tries no wrong program that breaks the theorem is_green"])
 
     def test_one_for_each_part_of_demand_3(self):
         self.put("README.md", FILES["README.md"].replace("refuse 5", "refuse 4"))
-        said = self.said("tests/wrong_programs/centralized_telescope/demand3_two.edit", "own: a b\n", "own: a b\ngate: no\n")
+        said = self.said("tests/wrong_programs/centralized_telescope/demand_3/demand3_two.edit", "own: a b\n", "own: a b\ngate: no\n")
         self.assertEqual(said, ["tests/wrong_programs: the gate tries no wrong claim on line 3 of demand 3, Demand3 two"])
         self.put("README.md", FILES["README.md"].replace("5 of the 6", "4 of the 5"))
-        (self.top / "tests/wrong_programs/centralized_telescope/demand3_two.edit").unlink()
+        (self.top / "tests/wrong_programs/centralized_telescope/demand_3/demand3_two.edit").unlink()
         self.assertEqual(self.said(), ["tests/wrong_programs: Demand3 two of demand 3 has no wrong claim"])
 
 

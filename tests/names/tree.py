@@ -8,7 +8,7 @@ TOP = Path(__file__).resolve().parents[2]
 for _folder in ("believed", "wrong_programs"):
     sys.path.insert(0, str(TOP / "tests" / _folder))
 from believed import CRATES, Count  # noqa: E402
-from edits import Edit, edits_of  # noqa: E402
+from edits import Edit, edits_of, misplaced, named_twice  # noqa: E402
 
 # A name before its colon; a marked one, a record or a data type also before its arguments.
 ANTT = re.compile(r"(?m)^ *(?:(?:(?:abbrev|unfoldable|pub|record|data) )+([^\s(){};:]+)(?= )|([^\s(){};:]+) :(?= |$))")
@@ -86,6 +86,13 @@ class Tree:
     @cached_property
     def edits(self) -> dict[str, Edit]:
         return {edit.name: edit for crate in CRATES for edit in edits_of(self.top, crate)}
+
+    def edits_out_of_room(self) -> list[tuple[Edit, Path]]:
+        """Each with the folder that it belongs in."""
+        return [(edit, right.parent.relative_to(self.top)) for edit, right in misplaced(self.top)]
+
+    def edits_named_twice(self) -> list[str]:
+        return named_twice(self.top)
 
     @cached_property
     def count(self) -> Count:

@@ -1,7 +1,8 @@
 """
-Edits, the files NAME.edit of tests/wrong_programs/CRATE and of crates/CRATE/must-fail: what they hold, how they are applied and which are
-wanted. tests/wrong_programs/run says what their lines mean.
+Edits, the files NAME.edit of tests/wrong_programs/CRATE/ROOM and of crates/CRATE/must-fail: what they hold, where they belong, how they are
+applied and which are wanted. tests/wrong_programs/run says what their lines mean.
 """
+from collections import Counter
 from collections.abc import Iterator
 from dataclasses import dataclass
 from pathlib import Path
@@ -34,16 +35,42 @@ class Edit:
     def values(self, key: str) -> list[str]:
         return [line.removeprefix(f"{key}: ") for line in self.lines if line.startswith(f"{key}: ")]
 
+    @property
+    def room(self) -> str:
+        """The theorem that must not be proved; else the file of src/ that is edited; else, of a definition, `specs`."""
+        for theorem in self.values("theorem"):
+            return theorem
+        for file in self.values("file"):
+            if file.startswith("src/"):
+                return Path(file).stem
+        return "specs"
+
 
 def read_edit(crate: str, path: Path) -> Edit:
     return Edit(crate, path, tuple(path.read_text(encoding="utf-8").split("\n")))
 
 
 def edits_of(top: Path, crate: str) -> Iterator[Edit]:
+    """By their names; those of must-fail/ last. One that stands in no room, or in the wrong one, is tried like any other."""
     for folder in (top / "tests/wrong_programs" / crate, top / "crates" / crate / "must-fail"):
-        for path in sorted(folder.glob("*.edit")):
+        for path in sorted(folder.rglob("*.edit"), key=lambda path: path.stem):
             if path.is_file():
                 yield read_edit(crate, path)
+
+
+def misplaced(top: Path) -> Iterator[tuple[Edit, Path]]:
+    """The edits of tests/wrong_programs that stand elsewhere than in their room, each with the path that it should have."""
+    for crate in CRATES:
+        for edit in edits_of(top, crate):
+            right = top / "tests/wrong_programs" / crate / edit.room / edit.path.name
+            if not edit.must_fail and edit.path != right:
+                yield edit, right
+
+
+def named_twice(top: Path) -> list[str]:
+    """Names that two edits have: pages name an edit by its name alone."""
+    names = Counter(edit.name for crate in CRATES for edit in edits_of(top, crate))
+    return sorted(name for name, number in names.items() if number > 1)
 
 
 def wanted(top: Path, crate: str, names: list[str], everything: bool) -> list[Edit]:

@@ -14,7 +14,7 @@ from pathlib import Path
 sys.dont_write_bytecode = True
 HERE = Path(__file__).resolve().parent
 sys.path.insert(0, str(HERE))
-from edits import CRATES, BadEdit, Edit, change, changed_files, wanted  # noqa: E402
+from edits import CRATES, BadEdit, Edit, change, changed_files, misplaced, named_twice, wanted  # noqa: E402
 from judgement import Refuted, judgement, only_shape, refusals  # noqa: E402
 from lanes import Stop, Tries, asked  # noqa: E402
 
@@ -107,6 +107,26 @@ class Files(unittest.TestCase):
             with self.assertRaises(BadEdit, msg=lines):
                 self.changed(*lines)
         self.assertEqual((self.root / "a").read_text(encoding="utf-8"), "one\ntwo\none more\n")
+
+
+class Rooms(unittest.TestCase):
+    def test_the_room_of_an_edit(self):
+        self.assertEqual(edit("file: src/door.rt", "old: x", "new: y", "first: a b").room, "door")
+        self.assertEqual(edit("file: specs/Door.antt", "own: proofs/door/open/Proof.antt returns").room, "specs")
+        self.assertEqual(edit("file: specs/Door.antt", "file: src/door.rt", "own: a b").room, "door")
+        self.assertEqual(edit("file: src/door.rt", "own: a b", "theorem: opens", "theorem: shuts").room, "opens")
+
+    def test_what_stands_elsewhere_and_what_is_named_twice(self):
+        with tempfile.TemporaryDirectory() as folder:
+            top = Path(folder)
+            for path in ("door/a", "door/b", "gate/b", "c"):
+                file = top / f"tests/wrong_programs/sampling/{path}.edit"
+                file.parent.mkdir(parents=True, exist_ok=True)
+                file.write_text("file: src/door.rt\n", encoding="utf-8")
+            room = top / "tests/wrong_programs/sampling/door"
+            found = sorted((one.path.relative_to(room.parent).as_posix(), right) for one, right in misplaced(top))
+            self.assertEqual(found, [("c.edit", room / "c.edit"), ("gate/b.edit", room / "b.edit")])
+            self.assertEqual(named_twice(top), ["b"])
 
 
 class Refusals(unittest.TestCase):
@@ -246,8 +266,8 @@ class Lanes(unittest.TestCase):
         return tries, out.getvalue()
 
     def test_which_are_wanted(self):
-        self.put("tests/wrong_programs/sampling/b.edit", WRONG)
-        self.put("tests/wrong_programs/sampling/a.edit", WRONG + "gate: no\n")
+        self.put("tests/wrong_programs/sampling/a_room/b.edit", WRONG)
+        self.put("tests/wrong_programs/sampling/b_room/a.edit", WRONG + "gate: no\n")
         self.put("crates/sampling/must-fail/c.edit", WRONG)
         self.assertEqual([one.name for one in wanted(self.top, "sampling", [], False)], ["b", "c"])
         self.assertEqual([one.name for one in wanted(self.top, "sampling", [], True)], ["a", "b", "c"])

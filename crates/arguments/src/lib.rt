@@ -8,7 +8,6 @@ mod settings;
 mod words;
 
 pub use numbers::whole_within;
-pub use report::say_refused;
 pub use settings::Asked;
 pub use settings::Figures;
 pub use settings::Reading;

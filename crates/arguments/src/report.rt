@@ -1,7 +1,4 @@
-// What is said of an argument that is wrong, and of a refusal.
-use centralized_telescope::Refusal;
-use centralized_telescope::refusal_number;
-use text::outcome::say_outcome;
+// What is said of an argument that is wrong.
 use text::say::say;
 use text::say::say_figure;
 
@@ -25,8 +22,4 @@ pub fn say_not_within(i: usize, name: &[u8], least: u64, most: u64) {
     say_figure(b"a whole number from ", least);
     say_figure(b" to ", most);
     say(b"\n");
-}
-
-pub fn say_refused(k: Refusal) {
-    say_outcome(b"refused", refusal_number(k) as u64);
 }

@@ -1,12 +1,12 @@
 // Settings, by the security figures, by the small case or each by itself.
 use crate::numbers;
 use crate::numbers::Double;
-use crate::report::say_refused;
 use centralized_telescope::Params;
 use centralized_telescope::Refusal;
 use centralized_telescope::SmallCase;
 use centralized_telescope::SmallSettings;
 use centralized_telescope::SmallestSize;
+use outcomes::say_refused;
 use text::number::Number;
 
 // How the settings stand among a program's arguments.

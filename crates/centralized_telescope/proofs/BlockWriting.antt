@@ -5,16 +5,16 @@ use Prim.Native.Nat.{ℕ, suc, _+_, _-_, _*_, _≤_, _<_}
 use native.Mathlib.Omega.{arith}
 use lib.ListN.{length, take, drop, length-append, length-take, length-drop, take-append-drop}
 use lib.Seq.{length-take-le, take-add, take-all, take-at, drop-at, drop-drop, paste, paste-zero, take-paste, drop-paste}
-use Rattle.sampling.specs.Fips180.{sha256}
-use Rattle.sampling.specs.Hash.{hashed}
+use Rattle.sampling.specs.core.Fips180.{sha256}
+use Rattle.sampling.specs.core.Hash.{hashed}
 use Rattle.sampling.specs.laws.CommonLaws.{copied}
 use Rattle.sampling.specs.laws.HashLaws.{length-sha256}
-use Rattle.centralized_telescope.specs.Blocks.{bodyCheck, sealed}
+use Rattle.centralized_telescope.specs.later.Blocks.{bodyCheck, sealed, bodyBytes, blockBytes, checkBytes}
 use Rattle.centralized_telescope.specs.laws.BlocksLaws.{length-check}
 use Rattle.centralized_telescope.specs.laws.BlocksReadLaws.{part-front}
 use Rattle.centralized_telescope.proofs.RoundHashes.{digest-is}
 
--- ---- a part more of a list copied to its place in a buffer
+-- ---- a part more of a list copied to its offset in a buffer
 
 pub copied-none : (d s : List ℕ) (at : ℕ) → d ≡ take at d ++ (take 0 s ++ drop (at + 0) d)
 copied-none d s at = paste-zero d at s ∙ append-assoc (take at d) (take 0 s) (drop (at + 0) d)
@@ -32,27 +32,27 @@ copied-more d s at k n hd hs o p r O P L R =
     R
     ∙ rw (L, front, back, P, append-assoc (take at d) (take k s), take-add k n s, append-assoc (take k s) (take n (drop k s)))
 
--- ---- a part of a slice as it is lent: n bytes from a place on
+-- ---- a part of a slice as it is lent: n bytes from an offset on
 
-abbrev pub lent : ℕ → ℕ → List ℕ → List ℕ
-lent from n t = take (from + n - from) (drop from t)
+abbrev pub part : ℕ → ℕ → List ℕ → List ℕ
+part from n t = take (from + n - from) (drop from t)
 
-pub lent-is : (from n : ℕ) (t : List ℕ) → lent from n t ≡ take n (drop from t)
-lent-is from n t = let e : from + n - from ≡ n = omega arith in rw e
+pub part-taken : (from n : ℕ) (t : List ℕ) → part from n t ≡ take n (drop from t)
+part-taken from n t = let e : from + n - from ≡ n = omega arith in rw e
 
-pub lent-long : (from n : ℕ) (t : List ℕ) → from + n ≤ length t → length (lent from n t) ≡ n
-lent-long from n t h = simp (length-take, length-drop) (omega arith)
+pub part-long : (from n : ℕ) (t : List ℕ) → from + n ≤ length t → length (part from n t) ≡ n
+part-long from n t h = simp (length-take, length-drop) (omega arith)
 
 -- a copy of it over as many bytes
-pub lent-copied : (from n : ℕ) (t d r : List ℕ) → from + n ≤ length t → length d ≡ n
-    → r ≡ take (length (lent from n t)) (lent from n t) ++ drop (length (lent from n t)) d
+pub part-copied : (from n : ℕ) (t d r : List ℕ) → from + n ≤ length t → length d ≡ n
+    → r ≡ take (length (part from n t)) (part from n t) ++ drop (length (part from n t)) d
     → r ≡ take n (drop from t)
-lent-copied from n t d r h l R =
-    R ∙ copied (lent from n t) d (lent-long from n t h ∙ sym l) ∙ lent-is from n t
+part-copied from n t d r h l R =
+    R ∙ copied (part from n t) d (part-long from n t h ∙ sym l) ∙ part-taken from n t
 
 -- ---- the check of a body
 
-module _ (body digest : List ℕ) (k : ℕ) (l : length body ≡ 504) (e : (k, digest) ≡ hashed (body ++ [])) where
+module _ (body digest : List ℕ) (k : ℕ) (l : length body ≡ bodyBytes) (e : (k, digest) ≡ hashed (body ++ [])) where
   digest-of-body : digest ≡ sha256 body
   digest-of-body = rw append-nil at (digest-is body [] [] [] digest k (omega arith) e)
 
@@ -67,17 +67,17 @@ module _ (body digest : List ℕ) (k : ℕ) (l : length body ≡ 504) (e : (k, d
 
 -- ---- a block made at its place, in two parts
 
-pub block-made : (at : ℕ) (o body check q r : List ℕ) → at + 512 ≤ length o → length body ≡ 504 → check ≡ bodyCheck body
+pub block-made : (at : ℕ) (o body check q r : List ℕ) → at + blockBytes ≤ length o → length body ≡ bodyBytes → check ≡ bodyCheck body
     → q ≡ take at o ++ (body ++ drop (at + length body) o)
-    → r ≡ take (at + 504) q ++ (check ++ drop (at + 504 + length check) q)
-    → r ≡ take at o ++ ((body ++ bodyCheck body) ++ drop (at + 512) o)
+    → r ≡ take (at + bodyBytes) q ++ (check ++ drop (at + bodyBytes + length check) q)
+    → r ≡ take at o ++ ((body ++ bodyCheck body) ++ drop (at + blockBytes) o)
 block-made at o body check q r h B C Q R =
     let L : length check ≡ 8 = rw C (length-check body) in
     let s : List ℕ = body ++ check in
-    let S : length s ≡ 512 = simp length-append (omega arith) in
-    let first : q ≡ take at o ++ (take 504 s ++ drop (at + 504) o) = rw (take-at body check 504 B, ← B) Q in
-    let second : check ≡ take 8 (drop 504 s) = rw (drop-at body check 504 B, take-all 8 check (omega arith)) in
-    rw (← C, ← take-all 512 s (omega arith)) (copied-more o s at 504 8 (omega arith) (omega arith) q check r first second L R)
+    let S : length s ≡ blockBytes = simp length-append (omega arith) in
+    let first : q ≡ take at o ++ (take bodyBytes s ++ drop (at + bodyBytes) o) = rw (take-at body check bodyBytes B, ← B) Q in
+    let second : check ≡ take checkBytes (drop bodyBytes s) = rw (drop-at body check bodyBytes B, take-all 8 check (omega arith)) in
+    rw (← C, ← take-all blockBytes s (omega arith)) (copied-more o s at bodyBytes 8 (omega arith) (omega arith) q check r first second L R)
 
 -- ---- one block more
 
@@ -86,32 +86,35 @@ block body = body ++ bodyCheck body
 
 -- the blocks from the k-th on are made of the bodies in b, and what is before and behind them is as it was
 abbrev pub sealedFrom : ℕ → ℕ → List ℕ → List ℕ
-sealedFrom k n b = take (512 * k) b ++ (sealed (n - k) (drop (504 * k) b) ++ drop (512 * n) b)
+sealedFrom k n b = take (blockBytes * k) b ++ (sealed (n - k) (drop (bodyBytes * k) b) ++ drop (blockBytes * n) b)
 
 pub none-sealed : (n : ℕ) (b : List ℕ) → b ≡ sealedFrom n n b
 unfolding sealed
-none-sealed n b = let e : n - n ≡ 0 = omega arith in rw e (sym (take-append-drop (512 * n) b))
+none-sealed n b = let e : n - n ≡ 0 = omega arith in rw e (sym (take-append-drop (blockBytes * n) b))
 
-pub all-sealed : (n : ℕ) (b : List ℕ) → sealedFrom 0 n b ≡ sealed n b ++ drop (512 * n) b
+pub all-sealed : (n : ℕ) (b : List ℕ) → sealedFrom 0 n b ≡ sealed n b ++ drop (blockBytes * n) b
 all-sealed n b = let e : n - 0 ≡ n = omega arith in rw e
 
 sealed-step : (k n : ℕ) (b : List ℕ) → k < n
-    → sealed (n - k) (drop (504 * k) b) ≡ block (take 504 (drop (504 * k) b)) ++ sealed (n - (k + 1)) (drop (504 * (k + 1)) b)
+    → sealed (n - k) (drop (bodyBytes * k) b)
+    ≡ block (take bodyBytes (drop (bodyBytes * k) b)) ++ sealed (n - (k + 1)) (drop (bodyBytes * (k + 1)) b)
 unfolding sealed
 sealed-step k n b h =
     let e : n - k ≡ suc (n - (k + 1)) = omega arith in
-    let f : 504 * k + 504 ≡ 504 * (k + 1) = omega arith in
-    rw (e, drop-drop 504 (504 * k) b, f)
+    let f : bodyBytes * k + bodyBytes ≡ bodyBytes * (k + 1) = omega arith in
+    rw (e, drop-drop bodyBytes (bodyBytes * k) b, f)
 
-pub one-sealed : (k n : ℕ) (b o r : List ℕ) → k < n → 512 * n ≤ length b → o ≡ sealedFrom (k + 1) n b
-    → r ≡ take (512 * k) o ++ (block (take 504 (drop (504 * k) o)) ++ drop (512 * k + 512) o)
+pub one-sealed : (k n : ℕ) (b o r : List ℕ) → k < n → blockBytes * n ≤ length b → o ≡ sealedFrom (k + 1) n b
+    → r ≡ take (blockBytes * k) o ++ (block (take bodyBytes (drop (bodyBytes * k) o)) ++ drop (blockBytes * k + blockBytes) o)
     → r ≡ sealedFrom k n b
 one-sealed k n b o r h l O R =
-    let ys : List ℕ = sealed (n - (k + 1)) (drop (504 * (k + 1)) b) ++ drop (512 * n) b in
-    let w : length (take (512 * (k + 1)) b) ≡ 512 * (k + 1) = length-take-le (512 * (k + 1)) b (omega arith) in
-    let front : take (512 * k) o ≡ take (512 * k) b
-    = ap (take (512 * k)) O ∙ part-front 0 (512 * k) (512 * (k + 1)) b ys (omega arith) (omega arith) in
-    let body : take 504 (drop (504 * k) o) ≡ take 504 (drop (504 * k) b)
-    = ap (λ (s : List ℕ). take 504 (drop (504 * k) s)) O ∙ part-front (504 * k) 504 (512 * (k + 1)) b ys (omega arith) (omega arith) in
-    let back : drop (512 * k + 512) o ≡ ys = ap (drop (512 * k + 512)) O ∙ drop-at (take (512 * (k + 1)) b) ys (512 * k + 512) (omega arith) in
-    R ∙ rw (front, body, back, sealed-step k n b h, append-assoc (block (take 504 (drop (504 * k) b))))
+    let ys : List ℕ = sealed (n - (k + 1)) (drop (bodyBytes * (k + 1)) b) ++ drop (blockBytes * n) b in
+    let w : length (take (blockBytes * (k + 1)) b) ≡ blockBytes * (k + 1) = length-take-le (blockBytes * (k + 1)) b (omega arith) in
+    let front : take (blockBytes * k) o ≡ take (blockBytes * k) b
+    = ap (take (blockBytes * k)) O ∙ part-front 0 (blockBytes * k) (blockBytes * (k + 1)) b ys (omega arith) (omega arith) in
+    let body : take bodyBytes (drop (bodyBytes * k) o) ≡ take bodyBytes (drop (bodyBytes * k) b)
+    = ap (λ (s : List ℕ). take bodyBytes (drop (bodyBytes * k) s)) O
+    ∙ part-front (bodyBytes * k) bodyBytes (blockBytes * (k + 1)) b ys (omega arith) (omega arith) in
+    let back : drop (blockBytes * k + blockBytes) o ≡ ys =
+    ap (drop (blockBytes * k + blockBytes)) O ∙ drop-at (take (blockBytes * (k + 1)) b) ys (blockBytes * k + blockBytes) (omega arith) in
+    R ∙ rw (front, body, back, sealed-step k n b h, append-assoc (block (take bodyBytes (drop (bodyBytes * k) b))))

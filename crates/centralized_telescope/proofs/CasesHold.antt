@@ -8,22 +8,24 @@ use native.Mathlib.Omega.{arith}
 use lib.Dec.{leb}
 use lib.Ieee.{Float, isNan, lt, ofInt, round, add, mul, div}
 use lib.ListN.{length, take, length-take}
-use Rattle.sampling.specs.BigEndian.{bigEndian}
-use Rattle.sampling.specs.Sample.{isPower, modNotPower, uniform, outside, threshold, thresholdOrRefusal, bernoulli}
+use Rattle.sampling.specs.core.BigEndian.{bigEndian}
+use Rattle.sampling.specs.core.Sample.{isPower, modNotPower, uniform, bernoulli}
+use Rattle.sampling.specs.later.Threshold.{outside, threshold, converted}
 use Rattle.sampling.specs.laws.SampleLaws.{drawn-of-one}
 use Rattle.centralized_telescope.specs.declared.params.Params.{Params}
-use Rattle.centralized_telescope.specs.Params.{notOneTo, asDouble, L, floor, ceil, beforeCeil, searchWidth, beforeFloor, dfsBound}
-use Rattle.centralized_telescope.specs.Params.{proofSizeOut, completenessOut, smallCase, smallSettings}
+use Rattle.centralized_telescope.specs.core.Params.{notOneTo}
+use Rattle.centralized_telescope.specs.later.SmallCase.{asDouble, L, floor, ceil, beforeCeil, searchWidth, beforeFloor, dfsBound}
+use Rattle.centralized_telescope.specs.later.SmallCase.{proofSizeOut, completenessOut, smallCase, smallSettings}
 use Rattle.centralized_telescope.specs.laws.SmallCaseLaws.{settings-given}
-use Rattle.centralized_telescope.specs.Elements.{Element, elements}
+use Rattle.centralized_telescope.specs.core.Elements.{Element, elements}
 use Rattle.centralized_telescope.specs.laws.ElementsLaws.{length-elements}
-use Rattle.centralized_telescope.specs.Lists.{Each}
-use Rattle.centralized_telescope.specs.Chains.{Chain, tryOf}
-use Rattle.centralized_telescope.specs.Rounds.{saysYes}
-use Rattle.centralized_telescope.specs.Prover.{served, answered}
-use Rattle.centralized_telescope.specs.Search.{tryFinds, searched}
+use Rattle.centralized_telescope.specs.core.Lists.{Each}
+use Rattle.centralized_telescope.specs.core.Chains.{Chain, tryOf}
+use Rattle.centralized_telescope.specs.core.Rounds.{saysYes}
+use Rattle.centralized_telescope.specs.core.Prover.{bySearch, answered}
+use Rattle.centralized_telescope.specs.core.Search.{tryFinds, searched}
 use Rattle.centralized_telescope.specs.laws.OneBinLaws.{treeSize, count-whole, none-found, tries-find-none, tries-count, never-yes}
-use Rattle.centralized_telescope.specs.AllCases.{Holds, settingsOf, Ends, cases, AllCases}
+use Rattle.centralized_telescope.specs.later.AllCases.{Holds, caseSettings, RunGives, cases, AllCases}
 use Rattle.centralized_telescope.proofs.ProveAnswers.{served-so}
 
 -- ---- h
@@ -38,7 +40,7 @@ small u d bound s w b c o = rw (settings-given u c s o) (refl, w, b)
 
 module _ (size width retries bound : ℕ) where
   abbrev p : Params
-  p = settingsOf size width retries bound
+  p = caseSettings size width retries bound
 
   -- the count where m elements are kept: of each try all its chains, or the bound
   abbrev counted : ℕ → ℕ
@@ -47,7 +49,7 @@ module _ (size width retries bound : ℕ) where
   module _ (es : List Element) where
     -- X of q 0 is 0
     never : (h : List ℕ) → saysYes (p .x) h ≡ false
-    unfolding isNan lt outside threshold thresholdOrRefusal
+    unfolding isNan lt outside threshold converted
     never h = never-yes h
 
     finds : (R : ℕ) → tryFinds (tryOf p es R) ≡ none
@@ -66,8 +68,8 @@ module _ (size width retries bound : ℕ) where
   unfolding answered
   answered-none o R sum places table e = rw e (refl, refl)
 
-  run-ends : (n number count : ℕ) → count ≡ counted (min 2 n) → number ≡ cond (leb bound count) 11 12 → Ends p n number count
-  unfolding served
+  run-ends : (n number count : ℕ) → count ≡ counted (min 2 n) → number ≡ cond (leb bound count) 11 12 → RunGives p n number count
+  unfolding bySearch
   run-ends n number count C N lent places table S E =
       let es = elements lent in
       let kept : length (take 2 es) ≡ min 2 n =
@@ -83,7 +85,7 @@ abbrev _&_ : {A B : Type 0} → A → B → A × B
 a & b = (a, b)
 
 pub all-cases : AllCases
-unfolding Each cases Holds isNan lt ofInt round add mul div bigEndian isPower modNotPower uniform outside threshold thresholdOrRefusal
+unfolding Each cases Holds isNan lt ofInt round add mul div bigEndian isPower modNotPower uniform outside threshold converted
     bernoulli notOneTo asDouble L floor ceil beforeCeil searchWidth beforeFloor dfsBound treeSize
 all-cases =
     refl

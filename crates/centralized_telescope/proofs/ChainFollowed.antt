@@ -10,9 +10,9 @@ use lib.ListN.{length, drop, drop-of-length-le}
 use lib.Seq.{drop-cons}
 use Rattle.sampling.specs.declared.sample.U128.{U128}
 use Rattle.centralized_telescope.specs.declared.params.Params.{Params}
-use Rattle.centralized_telescope.specs.Elements.{Element, elementAt}
-use Rattle.centralized_telescope.specs.Rounds.{startHash, nextHash, roundId, binOf}
-use Rattle.centralized_telescope.specs.Verifier.{ifSome, follow, lastHash, yesOn}
+use Rattle.centralized_telescope.specs.core.Elements.{Element, elementAt}
+use Rattle.centralized_telescope.specs.core.Rounds.{startHash, nextHash, roundId, binOf}
+use Rattle.centralized_telescope.specs.core.Verifier.{ifSome, follow, lastHash, yesOn}
 use Rattle.centralized_telescope.specs.inner.Following.{isNowhere, isMet, followedFrom}
 
 element-next : (es : List Element) (place : ℕ) → place < length es → drop place es ≡ elementAt es place ∷ drop (suc place) es
@@ -26,18 +26,21 @@ module _ (p : Params) (R : ℕ) where
   -- ---- one round
 
   -- the start round, with the hash h
-  pub from-start : (S : ℕ) (h : List ℕ) → h ≡ startHash R S → (g : List ℕ) (o : Option ℕ) → (g ≡ h) × (o ≡ roundId N h) → (es : List Element) → followedFrom p R g o es ≡ lastHash p R S es
+  pub from-start : (S : ℕ) (h : List ℕ) → h ≡ startHash R S → (g : List ℕ) (o : Option ℕ) → (g ≡ h) × (o ≡ roundId N h)
+      → (es : List Element) → followedFrom p R g o es ≡ lastHash p R S es
   unfolding lastHash
   from-start S h e g o r es = rw (r .0, r .1, e)
 
   -- the round behind the one with the hash h and the id o, by an element with the bin b
   module _ (h : List ℕ) (b : Option ℕ) (e : Element) (B : b ≡ binOf N R e) (es : List Element) where
-    after-met : (o : Option ℕ) → isMet b o ≡ true → followedFrom p R (nextHash h e) (roundId N (nextHash h e)) es ≡ followedFrom p R h o (e ∷ es)
+    after-met : (o : Option ℕ) → isMet b o ≡ true
+        → followedFrom p R (nextHash h e) (roundId N (nextHash h e)) es ≡ followedFrom p R h o (e ∷ es)
     unfolding follow ifSome
     after-met none t = absurd (subst T (sym t) tt)
     after-met (some i) t = rw (← B, t)
 
-    pub bin-met : (o : Option ℕ) → isMet b o ≡ true → (g : List ℕ) → g ≡ nextHash h e → (f : List ℕ) (j : Option ℕ) → (f ≡ g) × (j ≡ roundId N g)
+    pub bin-met : (o : Option ℕ) → isMet b o ≡ true → (g : List ℕ) → g ≡ nextHash h e → (f : List ℕ) (j : Option ℕ)
+        → (f ≡ g) × (j ≡ roundId N g)
         → followedFrom p R f j es ≡ followedFrom p R h o (e ∷ es)
     bin-met o t g G f j r = rw (r .0, r .1, G) (after-met o t)
 
@@ -59,12 +62,14 @@ module _ (p : Params) (R : ℕ) where
 
   -- ---- the last hash x of the chain, seen from the round reached, behind which the elements from a place on are left
 
-  module _ (h : List ℕ) (o : Option ℕ) (es : List Element) (place : ℕ) (x : Option (List ℕ)) (F : followedFrom p R h o (drop place es) ≡ x) where
+  module _ (h : List ℕ) (o : Option ℕ) (es : List Element) (place : ℕ) (x : Option (List ℕ))
+      (F : followedFrom p R h o (drop place es) ≡ x) where
     pub chain-lost : isNowhere o ≡ true → (y : U128) → false ≡ yesOn y x
     chain-lost t y = rw (sym F ∙ nowhere h o t (drop place es))
 
     pub one-followed : place < length es → (e : Element) → e ≡ elementAt es place → (g : List ℕ) (j : Option ℕ)
-        → ((rest : List Element) → followedFrom p R g j rest ≡ followedFrom p R h o (e ∷ rest)) → followedFrom p R g j (drop (place + 1) es) ≡ x
+        → ((rest : List Element) → followedFrom p R g j rest ≡ followedFrom p R h o (e ∷ rest))
+        → followedFrom p R g j (drop (place + 1) es) ≡ x
     one-followed l e E g j r = rw (add-one place) (r (drop (suc place) es) ∙ rw (E, ← element-next es place l) F)
 
     pub all-followed : length es ≤ place → followedFrom p R h o [] ≡ x

@@ -6,22 +6,23 @@ use Prim.Native.Nat.{ℕ, _*_, _≤_, _<_}
 use native.Mathlib.Omega.{arith}
 use lib.ListN.{length, take, length-map, length-take}
 use lib.Seq.{take-at}
+use Rattle.sampling.specs.core.FirstNumber.{firstNumber}
 use Rattle.centralized_telescope.specs.declared.params.Params.{Params}
-use Rattle.centralized_telescope.specs.Params.{notOneTo, limitBroken, checked}
+use Rattle.centralized_telescope.specs.core.Params.{notOneTo, limitBroken, checked}
 use Rattle.centralized_telescope.specs.laws.ParamsLaws.{lawful}
-use Rattle.centralized_telescope.specs.Elements.{Element, elements, elementAt, endWrong, malformed, dataLong, tooLarge, listCheck}
-use Rattle.centralized_telescope.specs.Elements.{Lent, lentOf}
+use Rattle.centralized_telescope.specs.core.Elements.{Element, elements, elementAt, endWrong, malformed, dataLong, tooLarge}
+use Rattle.centralized_telescope.specs.core.Elements.{listCheck, Lent, lentOf}
 use Rattle.centralized_telescope.specs.laws.ElementsLaws.{at-kept, length-elements, bytes-short}
-use Rattle.centralized_telescope.specs.Lists.{Each, someOf}
+use Rattle.centralized_telescope.specs.core.Lists.{Each, someOf}
 use Rattle.centralized_telescope.specs.laws.ListsLaws.{each-nil, each-cons, each-head, each-rest}
-use Rattle.centralized_telescope.specs.Chains.{Try, tryOf, Chain, ElementsPass, elementsOf, Passes}
-use Rattle.centralized_telescope.specs.Search.{searched}
-use Rattle.centralized_telescope.specs.Prover.{Proved, served, proved, tableAfter}
-use Rattle.centralized_telescope.specs.Verifier.{verdict}
-use Rattle.centralized_telescope.specs.ProofList.{joined, endsFrom, marksOf, indexesOf}
+use Rattle.centralized_telescope.specs.core.Chains.{Try, tryOf, Chain, ElementsPass, elementsOf, Passes}
+use Rattle.centralized_telescope.specs.core.Search.{searched}
+use Rattle.centralized_telescope.specs.core.Prover.{Proved, bySearch, proved, tableAfter}
+use Rattle.centralized_telescope.specs.core.Verifier.{verdict}
+use Rattle.centralized_telescope.specs.later.ProofList.{joinedData, endsFrom, marksOf, indexesOf}
 use Rattle.centralized_telescope.specs.laws.ProofListLaws.{Short, accepted-again, elements-again}
-use Rattle.centralized_telescope.specs.Demand3.{Served, OfProver, OfVerifier, OnTheProof, Listed, proofElements, demand3}
-use Rattle.centralized_telescope.specs.Demand3.{servedExample}
+use Rattle.centralized_telescope.specs.core.Demand3.{Served, OfProver, OfVerifier, OnTheProof, Listed, proofElements, demand3}
+use Rattle.centralized_telescope.specs.core.Demand3.{servedExample}
 use Rattle.centralized_telescope.proofs.ProveAnswers.{served-so}
 use Rattle.centralized_telescope.proofs.VerifierDemand.{verdict-so}
 use Rattle.centralized_telescope.proofs.ProverDemand.{prover-so}
@@ -55,7 +56,7 @@ module _ (lent : Lent) (A : listCheck lent ≡ 0) (k : ℕ) where
 
 list-of : (es : List Element) → length es ≤ 65536 → Each Short es → Listed es
 list-of es few short = record {
-  lent = lentOf (joined es) (endsFrom 0 es) (marksOf es) (indexesOf es);
+  lent = lentOf (joinedData es) (endsFrom 0 es) (marksOf es) (indexesOf es);
   accepted = accepted-again es few short;
   same = elements-again es;
 }
@@ -73,7 +74,7 @@ module _ (p : Params) (lent : Lent) (places table : List ℕ) (S : Served p lent
   r = proved p lent places table
 
   of-prover : OfProver p es places r
-  unfolding served
+  unfolding bySearch
   of-prover =
       subst (OfProver p es places)
       (sym (served-so p lent places table S))
@@ -135,5 +136,5 @@ demand-3 p lent places table S = record {
 -- ---- the example
 
 pub served-example : servedExample
-unfolding checked notOneTo limitBroken listCheck malformed someOf endWrong tooLarge dataLong
+unfolding firstNumber checked notOneTo limitBroken listCheck malformed someOf endWrong tooLarge dataLong
 served-example = record { settings = refl; list = refl; at-least = omega arith; places-enough = omega arith; table-enough = omega arith }

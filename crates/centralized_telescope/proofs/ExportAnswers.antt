@@ -1,6 +1,6 @@
 -- The exported verdict by its tests, in the table's order: e and k are the bytes of ends and indexes.
 use mathlib.Core.Path.{_≡_, refl, sym, _∙_}
-use mathlib.Core.Bool.{Bool, true, false, cond, _&&_}
+use mathlib.Core.Bool.{false, not, _&&_}
 use mathlib.Core.List.{List, [], _∷_}
 use Prim.Native.Nat.{ℕ, _+_, _-_, _/_, _%_, _≤_, _<_}
 use native.Mathlib.Numerals.{add-one}
@@ -10,17 +10,17 @@ use lib.ListN.{length, take, drop, getD}
 use Rattle.centralized_telescope.specs.declared.errors.Refusal.{Refusal}
 use Rattle.centralized_telescope.specs.declared.errors.Refusal.the-variants as refusal
 use Rattle.centralized_telescope.specs.declared.params.Params.{Params}
-use Rattle.centralized_telescope.specs.Refusals.{refusalNumber}
+use Rattle.centralized_telescope.specs.core.Refusals.{refusalNumber}
 use Rattle.centralized_telescope.specs.laws.RefusalsLaws.{refusal-number}
-use Rattle.centralized_telescope.specs.Elements.{elements, elementAt, endWrong, listCheck, lentOf}
+use Rattle.centralized_telescope.specs.core.Elements.{elements, elementAt, endWrong, listCheck, lentOf, maxDataBytes}
 use Rattle.centralized_telescope.specs.laws.ElementsLaws.{length-elements, same-marks, same-indexes, ends-right, start-before-end}
 use Rattle.centralized_telescope.specs.laws.ElementsLaws.{end-within, own-short, lent-there}
 use Rattle.centralized_telescope.specs.inner.ListReading.{startAt, dataAt, elementOf}
-use Rattle.centralized_telescope.specs.Lists.{firstNumber}
-use Rattle.centralized_telescope.specs.laws.ListsLaws.{number-met, second-met}
-use Rattle.centralized_telescope.specs.Params.{checked}
-use Rattle.centralized_telescope.specs.Verifier.{verdict}
-use Rattle.centralized_telescope.specs.Exports.{numbersOf, numbered, isWholeCount, exportedVerdict}
+use Rattle.sampling.specs.core.FirstNumber.{line}
+use Rattle.sampling.specs.laws.FirstNumberLaws.{number-met, second-met, two-passed, number-last}
+use Rattle.centralized_telescope.specs.core.Params.{checked}
+use Rattle.centralized_telescope.specs.core.Verifier.{verdict}
+use Rattle.centralized_telescope.specs.core.Exports.{numbersOf, numbered, isWholeCount, exportedVerdict}
 use Rattle.centralized_telescope.proofs.NumbersRead.{length-numbersIn}
 use Rattle.centralized_telescope.proofs.VerdictAnswers.{settings-refused}
 
@@ -61,7 +61,7 @@ module _ (d e m k : List ℕ) (A : listCheck (numbered (lentOf d e m k)) ≡ 0) 
       unfolding dataAt
       own-read = rw (s, t)
 
-      pub own-few : length own ≤ 4096
+      pub own-few : length own ≤ maxDataBytes
       own-few = own-short (numbered (lentOf d e m k)) A i inside own own-read
 
       pub element-read : (v : ℕ) → v ≡ getD (numbersOf 8 k) i 0
@@ -73,28 +73,29 @@ module _ (d e m k : List ℕ) (A : listCheck (numbered (lentOf d e m k)) ≡ 0) 
       next-start = rw (add-one i) t
 
 module _ (p : Params) (R S : ℕ) (d e m k : List ℕ) where
+  -- the second line, and the verdict behind it
+  abbrev leftOver : ℕ
+  leftOver = line 4 (not (isWholeCount 4 e && isWholeCount 8 k))
+
+  abbrev whole : ℕ
+  whole = verdict p R S (numbered (lentOf d e m k))
+
   pub bytes-settings-refused : (r : Refusal) → checked p ≡ refusalNumber r → refusalNumber r ≡ exportedVerdict p R S (lentOf d e m k)
   unfolding exportedVerdict
-  bytes-settings-refused r c = go (isWholeCount 4 e && isWholeCount 8 k)
-    where
-      go : (t : Bool)
-          → refusalNumber r ≡ cond t (verdict p R S (numbered (lentOf d e m k))) (firstNumber (checked p ∷ 4 ∷ []))
-      go true = settings-refused p R S (numbered (lentOf d e m k)) r c
-      go false = sym (number-met (checked p) (4 ∷ []) (refusalNumber r) c (refusal-number r))
+  bytes-settings-refused r c = sym (number-met (checked p) (leftOver ∷ whole ∷ []) (refusalNumber r) c (refusal-number r))
 
   module _ (P : checked p ≡ 0) where
-    malformed : 4 ≡ firstNumber (checked p ∷ 4 ∷ [])
-    malformed = sym (second-met (checked p) 4 [] 4 P refl (refusal-number refusal.Malformed))
+    malformed : leftOver ≡ 4 → 4 ≡ exportedVerdict p R S (lentOf d e m k)
+    unfolding exportedVerdict
+    malformed o = sym (second-met (checked p) leftOver (whole ∷ []) 4 P o (refusal-number refusal.Malformed))
 
     pub ends-not-whole : (length e % 4 ≡ 0 → ⊥) → 4 ≡ exportedVerdict p R S (lentOf d e m k)
-    unfolding exportedVerdict
-    ends-not-whole n = rw (ne-eqb (length e % 4) 0 n) malformed
+    ends-not-whole n = malformed (rw (ne-eqb (length e % 4) 0 n))
 
     pub indexes-not-whole : length e % 4 ≡ 0 → (length k % 8 ≡ 0 → ⊥) → 4 ≡ exportedVerdict p R S (lentOf d e m k)
-    unfolding exportedVerdict
-    indexes-not-whole E n = rw (eq-eqb (length e % 4) 0 E, ne-eqb (length k % 8) 0 n) malformed
+    indexes-not-whole E n = malformed (rw (eq-eqb (length e % 4) 0 E, ne-eqb (length k % 8) 0 n))
 
-  pub whole-counts : length e % 4 ≡ 0 → length k % 8 ≡ 0
-      → verdict p R S (numbered (lentOf d e m k)) ≡ exportedVerdict p R S (lentOf d e m k)
-  unfolding exportedVerdict
-  whole-counts E K = rw (eq-eqb (length e % 4) 0 E, eq-eqb (length k % 8) 0 K)
+    pub whole-counts : length e % 4 ≡ 0 → length k % 8 ≡ 0 → whole ≡ exportedVerdict p R S (lentOf d e m k)
+    unfolding exportedVerdict
+    whole-counts E K =
+        sym (two-passed (checked p) leftOver (whole ∷ []) P (rw (eq-eqb (length e % 4) 0 E, eq-eqb (length k % 8) 0 K)) ∙ number-last whole)

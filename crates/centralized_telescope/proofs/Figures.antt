@@ -3,10 +3,11 @@ use mathlib.Core.Path.{_≡_, refl, ap, _∙_}
 use Prim.Native.Nat.{ℕ}
 use lib.IntN.{pos}
 use lib.Ieee.{Float, binary64, ofBits, ofInt, round}
-use Rattle.sampling.specs.Sample.{xOf}
+use Rattle.sampling.specs.later.Threshold.{xOf}
 use Rattle.sampling.specs.declared.sample.U128.{U128}
 use Rattle.centralized_telescope.specs.declared.params.SmallSettings.{SmallSettings}
-use Rattle.centralized_telescope.specs.Params.{_⊕_, _⊗_, _⊘_, asDouble, L, floor, ceil, beforeCeil, searchWidth, probability, beforeFloor, dfsBound, smallSettings}
+use Rattle.centralized_telescope.specs.later.SmallCase.{_⊕_, _⊗_, _⊘_, asDouble, L, floor, ceil, beforeCeil, searchWidth, probability}
+use Rattle.centralized_telescope.specs.later.SmallCase.{beforeFloor, dfsBound, smallSettings}
 
 -- ---- the constants, a cast, and what is made of them
 
@@ -52,7 +53,8 @@ module _ (u d : ℕ) where
   unfolding searchWidth
   width-is e = e ∙ ap ceil (before-ceil-is u)
 
-  pub settings-are : (c : Float) (r b : ℕ) (x : U128) → r ≡ ceil c → d ≡ searchWidth u → b ≡ floor (codeBeforeFloor u d) → x ≡ xOf (codeProbability d)
+  pub settings-are : (c : Float) (r b : ℕ) (x : U128) → r ≡ ceil c → d ≡ searchWidth u → b ≡ floor (codeBeforeFloor u d)
+      → x ≡ xOf (codeProbability d)
       → _≡_ {A = SmallSettings}
       (record { «proof_size» = u; «max_retries» = r; «search_width» = d; «dfs_bound» = b; x = x })
       (smallSettings u c)

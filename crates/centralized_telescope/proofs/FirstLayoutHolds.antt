@@ -6,14 +6,15 @@ use Prim.Native.Nat.{ℕ, zero, suc, _+_, _-_, _*_, _/_, _%_, _^_, _≤_, _<_}
 use native.Mathlib.Nat.{pow-suc}
 use native.Mathlib.Omega.{arith}
 use lib.ListN.{length, replicate, length-append}
-use Rattle.sampling.specs.BigEndian.{bigEndian, bytesOf}
+use Rattle.sampling.specs.core.BigEndian.{bigEndian, bytesOf}
 use Rattle.sampling.specs.laws.BigEndianLaws.{length-bytesOf, bigEndian-append, read-back}
 use Rattle.centralized_telescope.specs.laws.BlocksLaws.{count-blocks, bodies-blocks, blocks-undamaged}
 use Rattle.centralized_telescope.specs.laws.TicketsReadLaws.{ticket-miscounted}
-use Rattle.centralized_telescope.specs.Elements.{Element}
-use Rattle.centralized_telescope.specs.Blocks.{blockCount, filled, blocks, bodiesOf, damaged}
-use Rattle.centralized_telescope.specs.Tickets.{elementsBytes, content, ticket, blocksIn, isTicket}
-use Rattle.centralized_telescope.specs.FirstLayout.{firstTicket, firstRefused}
+use Rattle.centralized_telescope.specs.core.Elements.{Element}
+use Rattle.centralized_telescope.specs.later.Blocks.{blockCount, filled, blocks, bodiesOf, damaged, bodyBytes, blockBytes}
+use Rattle.centralized_telescope.specs.later.ElementBytes.{elementsBytes}
+use Rattle.centralized_telescope.specs.later.Tickets.{content, ticket, blocksIn, isTicket}
+use Rattle.centralized_telescope.specs.later.FirstLayout.{firstTicket, firstRefused}
 use Rattle.centralized_telescope.proofs.TicketAnswers.{no-ticket}
 
 -- the first four bytes of j + 4 are zeros if the last j hold the number
@@ -36,11 +37,11 @@ module _ (R S : ℕ) (es : List Element) (h : R < 2 ^ 32) where
   nothing-stated : blocksIn (bodiesOf (blocks body)) ≡ 0
   unfolding filled
   nothing-stated =
-      let z : List ℕ = replicate (504 * blockCount (length body) - length body) 0 in
+      let z : List ℕ = replicate (bodyBytes * blockCount (length body) - length body) 0 in
       rw (bodies-blocks body, append-assoc (bytesOf 8 R) rest z)
       (bigEndian-append 4 (bytesOf 8 R) (rest ++ z) (omega (arith, length-bytesOf 8 R)) ∙ four-zeros 4 R h)
 
-  some-block : 1 ≤ length (blocks body) / 512
+  some-block : 1 ≤ length (blocks body) / blockBytes
   some-block = omega (arith, count-blocks body, length-append (bytesOf 8 R) rest, length-bytesOf 8 R)
 
   no-such : isTicket (firstTicket R S es) ≡ false

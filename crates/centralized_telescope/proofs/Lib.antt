@@ -18,11 +18,12 @@ mod FirstLayoutHolds
 mod PlanHolds
 -- round.rt
 mod RoundHashes
--- bins.rt; BinCounting misc.rt too
+-- bins.rt; BinCounting sort.rt too
 mod BinCounting
 mod BinPlacing
 mod BinBuilding
--- proof.rt, its search
+mod BinSpans
+-- search.rt
 mod TableFacts
 mod Measure
 mod Walked
@@ -30,7 +31,7 @@ mod Turn
 mod OneTry
 -- bins.rt
 mod BinListing
--- proof.rt, its tries
+-- search.rt, its tries
 mod ManyTries
 -- telescope.rt, theorems.rt
 mod ProveAnswers
@@ -40,12 +41,14 @@ mod ProofAnswers
 -- blocks.rt
 mod BlockWriting
 mod BlockReading
--- misc.rt
+-- order.rt
 mod Comparing
+-- sort.rt
 mod Merging
 mod Halves
+-- sort.rt, misc.rt, theorems.rt
 mod DistinctAnswers
--- proof.rt, its verifier
+-- proof.rt
 mod ChainFollowed
 -- telescope.rt, proof.rt, exports.rt
 mod VerdictAnswers
@@ -53,6 +56,8 @@ mod VerdictAnswers
 mod NumbersRead
 -- exports.rt
 mod ExportAnswers
+-- element_bytes.rt
+mod ElementWriting
 -- ticket.rt
 mod TicketWriting
 mod TicketReading

@@ -6,14 +6,15 @@ use native.Mathlib.Nat.{mul-zero, mul-suc, add-comm}
 use native.Mathlib.Omega.{arith}
 use lib.ListN.{length, take, drop, getD}
 use lib.Seq.{drop-drop}
-use Rattle.sampling.specs.BigEndian.{bigEndian}
+use Rattle.sampling.specs.core.BigEndian.{bigEndian}
 use Rattle.sampling.specs.laws.BigEndianLaws.{part-size, part-read}
-use Rattle.centralized_telescope.specs.Exports.{numbersIn}
+use Rattle.centralized_telescope.specs.core.Exports.{numbersIn}
 
 -- ---- one number: v is read from the n bytes at `at`
 
 pub part-number : (bytes : List ℕ) (at k n v : ℕ) → at + k ≤ length bytes → k ≤ 8 → n ≡ k
-    → (v ≡ bigEndian (min (length (take n (drop at bytes))) 8) (take n (drop at bytes))) × (v < 256 ^ min (length (take n (drop at bytes))) 8)
+    → (v ≡ bigEndian (min (length (take n (drop at bytes))) 8) (take n (drop at bytes)))
+    × (v < 256 ^ min (length (take n (drop at bytes))) 8)
     → (v ≡ bigEndian k (drop at bytes)) × (v < 256 ^ k)
 part-number bytes at k n v h e N r =
     let q = rw N at r in
@@ -30,4 +31,6 @@ pub number-at : (n k : ℕ) (bytes : List ℕ) (i : ℕ) → i < n → getD (num
 unfolding numbersIn
 number-at zero k bytes i h = absurd (omega arith)
 number-at (suc n) k bytes zero h = ap (λ (j : ℕ). bigEndian k (drop j bytes)) (sym (mul-zero k))
-number-at (suc n) k bytes (suc i) h = number-at n k (drop k bytes) i (omega arith) ∙ ap (bigEndian k) (drop-drop (k * i) k bytes ∙ ap (λ (j : ℕ). drop j bytes) (add-comm k (k * i) ∙ sym (mul-suc k i)))
+number-at (suc n) k bytes (suc i) h =
+    number-at n k (drop k bytes) i (omega arith)
+    ∙ ap (bigEndian k) (drop-drop (k * i) k bytes ∙ ap (λ (j : ℕ). drop j bytes) (add-comm k (k * i) ∙ sym (mul-suc k i)))

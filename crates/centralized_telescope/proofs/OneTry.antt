@@ -5,22 +5,23 @@ use mathlib.Core.Option.{none, some}
 use Prim.Native.Nat.{ℕ, zero, suc, _+_, _-_, _≤_, _<_}
 use native.Mathlib.Nat.{sub-zero}
 use native.Mathlib.Omega.{arith}
-use Rattle.centralized_telescope.specs.declared.proof.Outcome.{Outcome}
-use Rattle.centralized_telescope.specs.declared.proof.Outcome.the-variants as outcome
-use Rattle.centralized_telescope.specs.declared.proof.Attempt.the-variants as attempt
+use Rattle.centralized_telescope.specs.declared.search.Outcome.{Outcome}
+use Rattle.centralized_telescope.specs.declared.search.Outcome.the-variants as outcome
+use Rattle.centralized_telescope.specs.declared.search.Attempt.the-variants as attempt
 use Rattle.centralized_telescope.specs.declared.round.Id.{Id}
 use Rattle.centralized_telescope.specs.declared.round.Id.the-variants as id
-use Rattle.centralized_telescope.specs.Lists.{over}
-use Rattle.centralized_telescope.specs.Rounds.{startHash, roundId}
-use Rattle.centralized_telescope.specs.Chains.{Try, Chain}
-use Rattle.centralized_telescope.specs.Search.{idOf, grown, chains, chainsAt, chainsFrom, passing}
+use Rattle.centralized_telescope.specs.core.Lists.{over}
+use Rattle.centralized_telescope.specs.core.Rounds.{startHash}
+use Rattle.centralized_telescope.specs.core.Chains.{Try, Chain}
+use Rattle.centralized_telescope.specs.core.Search.{idOf, grown, chains, chainsAt, chainsFrom, passing}
 use Rattle.centralized_telescope.specs.inner.RoundAnswers.{idOption}
 use Rattle.centralized_telescope.specs.laws.SearchLaws.{same-search}
 use Rattle.centralized_telescope.specs.laws.TryLaws.{id-below}
 use Rattle.centralized_telescope.specs.inner.Walk.{Ended, found, missing, walk}
 use Rattle.centralized_telescope.specs.laws.WalkLaws.{walk-full, andThen, walk-append, walk-among}
-use Rattle.centralized_telescope.specs.inner.Visit.{visited, tried, attemptOf, written, writtenFrom}
-use Rattle.centralized_telescope.proofs.Walked.{visited-bound, visited-own, missing-of, found-of, written-short, written-full, written-none, Answers}
+use Rattle.centralized_telescope.specs.inner.Visit.{visited, tried, attemptOf, written, writtenFrom, VisitEnds, TryEnds}
+use Rattle.centralized_telescope.proofs.Walked.{visited-bound, visited-own, missing-of, Finds, found-of, stopped}
+use Rattle.centralized_telescope.proofs.Walked.{written-short, written-full, written-none}
 
 module _ (T : Try) where
   abbrev bound : ℕ
@@ -28,6 +29,10 @@ module _ (T : Try) where
 
   abbrev size : ℕ
   size = T .settings .«proof_size»
+
+  -- the whole try
+  abbrev pub whole : Ended Chain
+  whole = tried T (T .settings .«search_width») 0 0
 
   module _ (w S count : ℕ) where
     abbrev start : List ℕ
@@ -52,53 +57,98 @@ module _ (T : Try) where
         let f : walk (passing T) bound count (chains T S size start i []) ≡ r = rw (sub-zero size) at e in
         rw (q, ← f) (walk-append (passing T) bound count (chains T S size start i []) (chainsFrom T w (S + 1)))
 
-    tried-missing : (i t : ℕ) → idOf T start ≡ some i → visited T S start i [] 0 count ≡ missing t → tried T (suc w) S count ≡ tried T w (S + 1) t
+    tried-missing : (i t : ℕ) → idOf T start ≡ some i → visited T S start i [] 0 count ≡ missing t
+        → tried T (suc w) S count ≡ tried T w (S + 1) t
     unfolding andThen
     tried-missing i t q e = tried-at i (missing t) q e
 
-    tried-found : (i t : ℕ) (c : Chain) → idOf T start ≡ some i → visited T S start i [] 0 count ≡ found t c → tried T (suc w) S count ≡ found t c
+    tried-found : (i t : ℕ) (c : Chain) → idOf T start ≡ some i → visited T S start i [] 0 count ≡ found t c
+        → tried T (suc w) S count ≡ found t c
     unfolding andThen
     tried-found i t c q e = tried-at i (found t c) q e
 
   -- what a visit finds has its search counter
-  found-search : (S : ℕ) (h : List ℕ) (i count t : ℕ) (c : Chain) → idOf T h ≡ some i → visited T S h i [] 0 count ≡ found t c → c .search ≡ S
+  found-search : (S : ℕ) (h : List ℕ) (i count t : ℕ) (c : Chain) → idOf T h ≡ some i → visited T S h i [] 0 count ≡ found t c
+      → c .search ≡ S
   unfolding visited
-  found-search S h i count t c q e = same-search T S (size - 0) h i [] c (id-below T h i q) (walk-among (passing T) bound count _ t c e)
+  found-search S h i count t c q e =
+      same-search T S (size - 0) h i [] c (id-below T h i q) (walk-among (passing T) bound count _ t c e)
 
--- ---- a turn of the loop over the search counters
+-- ---- at the head of the loop over the search counters
 
--- what is known in a turn, with v search counters behind S, where the start hash g is made and the id d is drawn from it: mid are the lent
--- places as they are, old as they were
-pub record Trying (T : Try) (v S count : ℕ) (whole : Ended Chain) (g : List ℕ) (d : Id) (mid old : List ℕ) : Type 0 where
-  pub still : whole ≡ tried T (suc v) S count
-  pub within : count < T .settings .«dfs_bound»
-  pub hash-is : g ≡ startHash (T .retry) S
-  pub id-is : idOption d ≡ roundId (T .settings .«set_size») g
+-- at the search counter S: mid are the lent places as they are, old as they were
+pub record Trying (T : Try) (S count : ℕ) (mid old : List ℕ) : Type 0 where
+  pub low : S ≤ T .settings .«search_width»
+  pub most : count ≤ bound T
   pub as-lent : mid ≡ old
+  pub still : whole T ≡ tried T (T .settings .«search_width» - S) S count
 
-module _ {T : Try} {v S count : ℕ} {whole : Ended Chain} {g : List ℕ} {d : Id} {mid old : List ℕ} (k : Trying T v S count whole g d mid old) where
-  pub try-nothing : d ≡ id.Nowhere → whole ≡ tried T v (S + 1) count
-  try-nothing q = k .still ∙ tried-nothing T v S count (rw (← k .hash-is, ← k .id-is, q))
+pub try-begins : (T : Try) (old : List ℕ) → Trying T 0 0 old old
+try-begins T old = record {
+  low = omega arith;
+  most = omega arith;
+  as-lent = refl;
+  still = ap (λ (w : ℕ). tried T w 0 0) (sym (sub-zero (T .settings .«search_width»)));
+}
 
-  -- the round exists, with the id i, and its visit answers o and leaves the lent places as `last`
-  module _ (i : ℕ) (q : d ≡ id.At i) (o : Outcome) (last : List ℕ) where
+module _ {T : Try} {S count : ℕ} {mid old : List ℕ} (k : Trying T S count mid old) where
+  pub all-tried : T .settings .«search_width» ≤ S → TryEnds (whole T) (attempt.Missing count) old mid
+  all-tried l = stopped attemptOf (k .still ∙ tried-end T _ S count (omega arith)) (k .as-lent)
+
+  pub bound-reached : bound T ≤ count → TryEnds (whole T) (attempt.Missing count) old mid
+  bound-reached l = stopped attemptOf (k .still ∙ tried-full T _ S count l) (k .as-lent)
+
+-- ---- a turn
+
+-- what it knows, where the start hash g is made and the id d is drawn from it
+pub record Starting (T : Try) (S count : ℕ) (mid old : List ℕ) (g : List ℕ) (d : Id) : Type 0 where
+  pub head : Trying T S count mid old
+  pub inside : S < T .settings .«search_width»
+  pub within : count < bound T
+  pub hash-is : g ≡ startHash (T .retry) S
+  pub id-is : idOption d ≡ idOf T g
+
+module _ {T : Try} {S count : ℕ} {mid old : List ℕ} {g : List ℕ} {d : Id} (k : Starting T S count mid old g d) where
+  -- how many search counters there are behind this one
+  abbrev behind : ℕ
+  behind = T .settings .«search_width» - (S + 1)
+
+  opened : whole T ≡ tried T (suc behind) S count
+  opened =
+      let more : T .settings .«search_width» - S ≡ suc behind = omega (arith, k .inside) in
+      k .head .still ∙ ap (λ (u : ℕ). tried T u S count) more
+
+  -- the round doesn't exist, and the loop's variables are as they were
+  pub try-nothing : d ≡ id.Nowhere → (count′ : ℕ) (mid′ : List ℕ) → count′ ≡ count → mid′ ≡ mid → Trying T (S + 1) count′ mid′ old
+  try-nothing q count′ mid′ C M = rw (C, M) (record {
+    low = omega (arith, k .inside);
+    most = k .head .most;
+    as-lent = k .head .as-lent;
+    still = opened ∙ tried-nothing T behind S count (rw (← k .hash-is, ← k .id-is, q));
+  })
+
+  -- it exists, with the id i, and its visit answers o and leaves the lent places as `last`
+  module _ {i : ℕ} (q : d ≡ id.At i) where
     abbrev below : Ended Chain
     below = visited T S g i [] 0 count
 
-    module _ (said : Answers (T .settings) 0 below o last mid) where
+    module _ {o : Outcome} {last : List ℕ} (said : VisitEnds (T .settings) 0 below o mid last) where
       drawn : idOf T g ≡ some i
       drawn = sym (k .id-is) ∙ ap idOption q
 
       left : last ≡ writtenFrom (T .settings) 0 below old
-      left = said .1 ∙ ap (writtenFrom (T .settings) 0 below) (k .as-lent)
+      left = said .places-are ∙ ap (writtenFrom (T .settings) 0 below) (k .head .as-lent)
 
-      pub try-missing : (t : ℕ) → o ≡ outcome.Missing t → (whole ≡ tried T v (S + 1) t) × (t ≤ T .settings .«dfs_bound») × (last ≡ old)
-      try-missing t e =
-          let m : below ≡ missing t = missing-of below t (sym e ∙ said .0) in (
-            k .still ∙ tried-missing T v S count i t (rw (← k .hash-is) drawn) (rw (← k .hash-is) m),
-            rw m at (visited-bound T S g i [] 0 count (omega (arith, k .within))),
-            left ∙ written-none (T .settings) 0 below old t m,
-          )
+      pub try-missing : {t : ℕ} → o ≡ outcome.Missing t → (count′ : ℕ) (mid′ : List ℕ) → count′ ≡ t → mid′ ≡ last
+          → Trying T (S + 1) count′ mid′ old
+      try-missing {t} e count′ mid′ C M =
+          let m : below ≡ missing t = missing-of below t (sym e ∙ said .answer-is) in
+          rw (C, M) (record {
+            low = omega (arith, k .inside);
+            most = rw m at (visited-bound T S g i [] 0 count (omega (arith, k .within)));
+            as-lent = left ∙ written-none (T .settings) 0 below old t m;
+            still = opened ∙ tried-missing T behind S count i t (rw (← k .hash-is) drawn) (rw (← k .hash-is) m);
+          })
 
       -- places are written, and at length 0 there are none
       all-written : (t : ℕ) (c : Chain) → below ≡ found t c → writtenFrom (T .settings) 0 below old ≡ over (c .places) old
@@ -111,9 +161,13 @@ module _ {T : Try} {v S count : ℕ} {whole : Ended Chain} {g : List ℕ} {d : I
               written-full (T .settings) 0 below old (omega arith) ∙ rw own
           go (suc u) z = written-short (T .settings) 0 below old (omega arith) ∙ ap (λ (y : Ended Chain). written y old) e
 
-      pub try-found : (t : ℕ) → o ≡ outcome.Found t → (attempt.Found (record { 0 = S }) t ≡ attemptOf whole) × (last ≡ written whole old)
+      pub try-found : {t : ℕ} → o ≡ outcome.Found t → TryEnds (whole T) (attempt.Found (record { 0 = S }) t) old last
       unfolding written
-      try-found t e =
-          let f : (c : Chain) × (below ≡ found t c) = found-of below t (sym e ∙ said .0) in
-          let ends : whole ≡ found t (f .0) = k .still ∙ tried-found T v S count i t (f .0) (rw (← k .hash-is) drawn) (rw (← k .hash-is) (f .1)) in
-          (rw (ends, found-search T S g i count t (f .0) drawn (f .1)), rw ends (left ∙ all-written t (f .0) (f .1)))
+      try-found {t} e =
+          let f : Finds below t = found-of below t (sym e ∙ said .answer-is) in
+          let ends : whole T ≡ found t (f .chain) =
+          opened ∙ tried-found T behind S count i t (f .chain) (rw (← k .hash-is) drawn) (rw (← k .hash-is) (f .ends-with)) in
+          record {
+            answer-is = rw (ends, found-search T S g i count t (f .chain) drawn (f .ends-with));
+            places-are = rw ends (left ∙ all-written t (f .chain) (f .ends-with));
+          }

@@ -6,26 +6,31 @@ use mathlib.Core.List.{List, [], _∷_, map}
 use mathlib.Core.Option.{Option, none, some}
 use Prim.Native.Nat.{ℕ, zero, suc, _+_, _*_, _≤_, _<_}
 use native.Mathlib.Omega.{arith}
-use borrow.Author.Tests.{eq-eqb, lt-leb, le-ltb}
+use borrow.Author.Tests.{eq-eqb, lt-leb, lt-ltb, le-ltb}
 use lib.Dec.{leb, eqb}
 use lib.ListN.{length, take, length-append, length-map, length-take}
 use lib.Seq.{take-at}
-use Rattle.sampling.specs.BigEndian.{bytesOf}
+use Rattle.sampling.specs.core.BigEndian.{bytesOf}
 use Rattle.centralized_telescope.specs.declared.params.Params.{Params}
 use Rattle.centralized_telescope.specs.declared.planning.Amounts.{Amounts}
-use Rattle.centralized_telescope.specs.Params.{notOneTo, limitBroken, checked}
-use Rattle.centralized_telescope.specs.Lists.{Each, someOf, firstNumber}
-use Rattle.centralized_telescope.specs.Elements.{Element, markOf, elementsFrom, elements, elementAt, endWrong, malformed, dataLong}
-use Rattle.centralized_telescope.specs.Elements.{tooLarge, listCheck, Lent, lentOf}
-use Rattle.centralized_telescope.specs.Chains.{Chain}
-use Rattle.centralized_telescope.specs.Search.{searched}
-use Rattle.centralized_telescope.specs.Prover.{Proved, refused, answered, served, proverRefusal, proved}
-use Rattle.centralized_telescope.specs.ProofList.{joined, placeOut, buffersShort, ProofList, listOver, writeRefusal, proofList}
-use Rattle.centralized_telescope.specs.Blocks.{blockCount}
-use Rattle.centralized_telescope.specs.Tickets.{elementBytes, elementsBytes, content, ticketWriteRefusal, ticketWritten}
-use Rattle.centralized_telescope.specs.Demand3.{Served}
-use Rattle.centralized_telescope.specs.Plan.{amounts, planRefusal, planned}
-use Rattle.centralized_telescope.specs.PlanClaims.{planSuffices, planNeeded, stepsNotPassed, ticketFits, tightExample}
+use Rattle.centralized_telescope.specs.core.Params.{notOneTo, limitBroken, checked, maxProofSize}
+use Rattle.centralized_telescope.specs.core.Lists.{Each, someOf}
+use Rattle.sampling.specs.core.FirstNumber.{firstNumber}
+use Rattle.centralized_telescope.specs.core.Elements.{Element, elementsFrom, elements, elementAt, endWrong, malformed, dataLong}
+use Rattle.centralized_telescope.specs.core.Elements.{tooLarge, listCheck, Lent}
+use Rattle.centralized_telescope.specs.later.Words.{markOf}
+use Rattle.centralized_telescope.specs.core.Chains.{Chain}
+use Rattle.centralized_telescope.specs.core.Search.{searched}
+use Rattle.centralized_telescope.specs.core.Prover.{Proved, refused, answered, bySearch, proverRefusal, proved, roomRefusals}
+use Rattle.centralized_telescope.specs.later.ProofList.{joinedData, placeOut, buffersShort, ProofList, listOver, writeRefusal}
+use Rattle.centralized_telescope.specs.later.ProofList.{proofList}
+use Rattle.centralized_telescope.specs.later.ProofList.{frontOf}
+use Rattle.centralized_telescope.specs.later.Blocks.{blockCount, blockBytes}
+use Rattle.centralized_telescope.specs.later.ElementBytes.{elementBytes, elementsBytes, maxHeadBytes}
+use Rattle.centralized_telescope.specs.later.Tickets.{content, ticketWriteRefusal, ticketWritten, ticketHeadBytes}
+use Rattle.centralized_telescope.specs.core.Demand3.{Served}
+use Rattle.centralized_telescope.specs.later.Plan.{amounts, planRefusal, planned}
+use Rattle.centralized_telescope.specs.later.PlanClaims.{planSuffices, planNeeded, stepsNotPassed, ticketFits, tightExample}
 use Rattle.centralized_telescope.specs.laws.TestLaws.{lt-or-le}
 use Rattle.centralized_telescope.specs.laws.ListsLaws.{each-nil, each-cons, each-head, each-rest}
 use Rattle.centralized_telescope.specs.laws.ParamsLaws.{lawful}
@@ -33,7 +38,8 @@ use Rattle.centralized_telescope.specs.laws.ElementsLaws.{check-range, l
 use Rattle.centralized_telescope.specs.laws.ProofListLaws.{written-accepted, written-elements}
 use Rattle.centralized_telescope.specs.laws.PlanLaws.{Given, given, content-most, content-exact}
 use Rattle.centralized_telescope.proofs.Tries.{search-steps}
-use Rattle.centralized_telescope.proofs.ProveAnswers.{list-number, places-short, table-short, few-refused, all-served, found-served}
+use Rattle.centralized_telescope.proofs.ProveAnswers.{list-number-met, room-decides, places-met, table-met, few-met, refused-by}
+use Rattle.centralized_telescope.proofs.ProveAnswers.{served-so, found-served}
 use Rattle.centralized_telescope.proofs.ProofAnswers.{last-met}
 use Rattle.centralized_telescope.proofs.TicketAnswers.{room-met}
 use Rattle.centralized_telescope.proofs.DemandHolds.{demand-3}
@@ -53,7 +59,7 @@ module _ (p : Params) (longest : ℕ) (a : Amounts) (G : Given p longest a) wher
   unfolding amounts
   steps-are = ap (λ (m : Amounts). m .«most_steps») (G .same)
 
-  blocks-are : a .«ticket_blocks» ≡ blockCount (24 + p .«proof_size» * (13 + longest))
+  blocks-are : a .«ticket_blocks» ≡ blockCount (ticketHeadBytes + p .«proof_size» * (maxHeadBytes + longest))
   unfolding amounts
   blocks-are = ap (λ (m : Amounts). m .«ticket_blocks») (G .same)
 
@@ -74,29 +80,43 @@ module _ (p : Params) (s : checked p ≡ 0) (lent : Lent) (places table : List �
       go true e = omega arith
       go false e = omega arith
 
+  -- the answer's number by the first line met
+  number-by : (k : ℕ) → (k ≡ 0 → ⊥) → proverRefusal p lent (length places) (length table) ≡ k → answer .number ≡ k
+  number-by k n e = ap (λ (x : Proved). x .number) (refused-by p lent places table k n e)
+
   enough : p .«proof_size» ≤ length places → 3 * p .«set_size» + 1 ≤ length table → answer .number ≡ 6 → ⊥
-  unfolding served
+  unfolding bySearch
   enough h t e = go (listCheck lent) refl
     where
       go : (n : ℕ) → listCheck lent ≡ n → ⊥
       go (suc k) l =
           let q : answer .number ≡ suc k =
-          ap (λ (x : Proved). x .number) (list-number p lent places table s (suc k) (λ z. omega arith) l) in
+          number-by (suc k) (λ z. omega arith) (list-number-met p lent _ _ s (suc k) (λ z. omega arith) l) in
           omega (arith, check-range lent)
       go zero l = elim (lt-or-le (length ends) (p .«set_size»)) [
-        | inl f ↦ let q : answer .number ≡ 10 = ap (λ (x : Proved). x .number) (few-refused p lent places table s l h t f) in omega arith
+        | inl f ↦
+            let q : answer .number ≡ 10 =
+            number-by 10 (λ z. omega arith)
+            (room-decides p lent _ _ s l
+            ∙ few-met p (length ends) _ _ h (le-ltb (length table) (3 * p .«set_size» + 1) t) f) in
+            omega arith
         | inr f ↦
             not-six (searched p (elements lent) .proof) _ _ _
-            (sym (ap (λ (x : Proved). x .number) (all-served p lent places table s l h t f)) ∙ e)
+            (sym (ap (λ (x : Proved). x .number) (served-so p lent places table
+            (record { settings = s; list = l; at-least = f; places-enough = h; table-enough = t }))) ∙ e)
       ]
 
   too-short : listCheck lent ≡ 0 → (length places < p .«proof_size») ⊎ (length table < 3 * p .«set_size» + 1)
       → answer ≡ refused 6 places table
-  too-short l (inl h) = places-short p lent places table s l h
-  too-short l (inr t) = elim (lt-or-le (length places) (p .«proof_size»)) [
-    | inl h ↦ places-short p lent places table s l h
-    | inr h ↦ table-short p lent places table s l h t
-  ]
+  too-short l o = refused-by p lent places table 6 (λ z. omega arith) (room-decides p lent _ _ s l ∙ go o)
+    where
+      go : (length places < p .«proof_size») ⊎ (length table < 3 * p .«set_size» + 1)
+          → firstNumber (roomRefusals p (length ends) (length places) (length table)) ≡ 6
+      go (inl h) = places-met p (length ends) _ _ h
+      go (inr t) = elim (lt-or-le (length places) (p .«proof_size»)) [
+        | inl h ↦ places-met p (length ends) _ _ h
+        | inr h ↦ table-met p (length ends) _ _ h (lt-ltb (length table) (3 * p .«set_size» + 1) t)
+      ]
 
 pub plan-suffices : planSuffices
 plan-suffices p longest a P lent places table h t =
@@ -124,13 +144,13 @@ module _ (p : Params) (lent : Lent) (places table : List ℕ) where
   counted none R count table′ = refl
 
   steps-most : proved p lent places table .count ≤ p .«max_retries» * p .«dfs_bound»
-  unfolding proved served
+  unfolding proved bySearch
   steps-most = go (eqb refusal 0)
     where
       refusal : ℕ
-      refusal = proverRefusal p lent places table
+      refusal = proverRefusal p lent (length places) (length table)
 
-      go : (t : Bool) → cond t (served p es places table) (refused refusal places table) .count ≤ p .«max_retries» * p .«dfs_bound»
+      go : (t : Bool) → cond t (bySearch p es places table) (refused refusal places table) .count ≤ p .«max_retries» * p .«dfs_bound»
       go true = rw (counted (searched p es .proof) (searched p es .made) (searched p es .count) _) (search-steps p es)
       go false = omega arith
 
@@ -149,10 +169,10 @@ at-each P (e ∷ es) (suc i) h E = at-each P es i (omega arith) (E .1)
 
 -- data no longer than some length, joined
 joined-most : (longest : ℕ) (es : List Element) → Each (λ (e : Element). length (e .bytes) ≤ longest) es
-    → length (joined es) ≤ length es * longest
-unfolding Each joined
+    → length (joinedData es) ≤ length es * longest
+unfolding Each joinedData
 joined-most longest [] h = omega arith
-joined-most longest (e ∷ es) h = omega (arith, length-append (e .bytes) (joined es), h .0, joined-most longest es (h .1))
+joined-most longest (e ∷ es) h = omega (arith, length-append (e .bytes) (joinedData es), h .0, joined-most longest es (h .1))
 
 -- more bytes take no fewer blocks
 blocks-rise : (m n : ℕ) → m ≤ n → blockCount m ≤ blockCount n
@@ -163,12 +183,12 @@ module _ (R S : ℕ) (lent : Lent) (out : List ℕ) (A : listCheck lent ≡ 0) w
   abbrev size : ℕ
   size = length (content R S (elements lent))
 
-  ticket-made : 512 * blockCount size ≤ length out
+  ticket-made : blockBytes * blockCount size ≤ length out
       → (ticketWritten R S lent out .number ≡ 0) × (ticketWritten R S lent out .count ≡ blockCount size)
   unfolding ticketWritten
   ticket-made room =
       rw (eq-eqb (ticketWriteRefusal R S lent out) 0
-      (room-met R S lent out A size refl false (le-ltb (length out) (512 * blockCount size) room))) (refl, refl)
+      (room-met R S lent out A size refl false (le-ltb (length out) (blockBytes * blockCount size) room))) (refl, refl)
 
 module _ (p : Params) (lent : Lent) (places table : List ℕ) (n : proved p lent places table .number ≡ 0) where
   open Lent lent using (ends)
@@ -243,63 +263,60 @@ module _ (p : Params) (lent : Lent) (places table : List ℕ) (n : proved p lent
       unfolding proofList buffersShort listOver
       listed b e m x =
           let P = places-are p longest a G in
-          let few : length own ≤ 1024 = omega (arith, own-length, lawful p (G .settings) .limits .proof-size) in
-          let data-most : length (joined (map (elementAt all) own)) ≤ p .«proof_size» * longest =
-          subst (λ (k : ℕ). length (joined (map (elementAt all) own)) ≤ k * longest) elements-count
+          let few : length own ≤ maxProofSize = omega (arith, own-length, lawful p (G .settings) .limits .proof-size) in
+          let data-most : length (joinedData (map (elementAt all) own)) ≤ p .«proof_size» * longest =
+          subst (λ (k : ℕ). length (joinedData (map (elementAt all) own)) ≤ k * longest) elements-count
           (joined-most longest (map (elementAt all) own) own-short) in
           let b′ : p .«proof_size» * longest ≤ length bytes′ = subst (λ (k : ℕ). k * longest ≤ length bytes′) P b in
-          let room : buffersShort (length own) (length (joined (map (elementAt all) own))) (length bytes′) (length ends′) (length marks′)
-          (length indexes′) ≡ false =
+          let room : buffersShort (length own) (length (joinedData (map (elementAt all) own))) buffers ≡ false =
           rw (
             le-ltb (length ends′) (length own) (omega (arith, own-length)),
             le-ltb (length marks′) (length own) (omega (arith, own-length)),
             le-ltb (length indexes′) (length own) (omega (arith, own-length)),
-            le-ltb (length bytes′) (length (joined (map (elementAt all) own))) (omega arith),
+            le-ltb (length bytes′) (length (joinedData (map (elementAt all) own))) (omega arith),
           ) in
           let none-met = last-met own lent buffers (run .list) (omega arith) (none-out own own-places) false room in
           rw (eq-eqb (writeRefusal own lent buffers) 0 none-met)
 
-      module _ (W : w .number ≡ 0) (room : 512 * a .«ticket_blocks» ≤ length out) where
-        -- the four parts handed on
-        abbrev d : List ℕ
-        d = take (w .len) (w .bytes)
+      module _ (W : w .number ≡ 0) (room : blockBytes * a .«ticket_blocks» ≤ length out) where
+        -- the list handed on
+        abbrev sent : Lent
+        sent = frontOf (w .len) (p .«proof_size») (w .buffers)
 
-        abbrev part : List ℕ → List ℕ
-        part l = take (p .«proof_size») l
-
-        accepted-parts : listCheck (lentOf d (part (w .ends)) (part (w .marks)) (part (w .indexes))) ≡ 0
+        accepted-parts : listCheck sent ≡ 0
         accepted-parts =
-            subst (λ (k : ℕ). listCheck (lentOf d (take k (w .ends)) (take k (w .marks)) (take k (w .indexes))) ≡ 0) own-length
-            (written-accepted own lent buffers W)
+            subst (λ (k : ℕ). listCheck (frontOf (w .len) k (w .buffers)) ≡ 0) own-length (written-accepted own lent buffers W)
 
-        same-elements : elements (lentOf d (part (w .ends)) (part (w .marks)) (part (w .indexes))) ≡ map (elementAt all) own
+        same-elements : elements sent ≡ map (elementAt all) own
         same-elements =
-            subst (λ (k : ℕ). elements (lentOf d (take k (w .ends)) (take k (w .marks)) (take k (w .indexes))) ≡ map (elementAt all) own)
-            own-length
+            subst (λ (k : ℕ). elements (frontOf (w .len) k (w .buffers)) ≡ map (elementAt all) own) own-length
             (written-elements own lent buffers W)
 
         abbrev held : ℕ
-        held = length (content (r .retry) (r .search) (elements (lentOf d (part (w .ends)) (part (w .marks)) (part (w .indexes)))))
+        held = length (content (r .retry) (r .search) (elements sent))
 
         held-is : held ≡ length (content (r .retry) (r .search) (map (elementAt all) own))
         held-is = ap (λ (es : List Element). length (content (r .retry) (r .search) es)) same-elements
 
-        held-most : held ≤ 24 + p .«proof_size» * (13 + longest)
+        held-most : held ≤ ticketHeadBytes + p .«proof_size» * (maxHeadBytes + longest)
         held-most =
-            rw held-is (subst (λ (k : ℕ). length (content (r .retry) (r .search) (map (elementAt all) own)) ≤ 24 + k * (13 + longest))
+            rw held-is
+            (subst
+            (λ (k : ℕ). length (content (r .retry) (r .search) (map (elementAt all) own)) ≤ ticketHeadBytes + k * (maxHeadBytes + longest))
             elements-count (content-most longest (r .retry) (r .search) (map (elementAt all) own) own-short))
 
         blocks-most : blockCount held ≤ a .«ticket_blocks»
-        blocks-most = rw (blocks-are p longest a G) (blocks-rise held (24 + p .«proof_size» * (13 + longest)) held-most)
+        blocks-most =
+            rw (blocks-are p longest a G) (blocks-rise held (ticketHeadBytes + p .«proof_size» * (maxHeadBytes + longest)) held-most)
 
-        made : (ticketWritten (r .retry) (r .search) (lentOf d (part (w .ends)) (part (w .marks)) (part (w .indexes))) out .number ≡ 0)
-            × (ticketWritten (r .retry) (r .search) (lentOf d (part (w .ends)) (part (w .marks)) (part (w .indexes))) out .count
+        made : (ticketWritten (r .retry) (r .search) sent out .number ≡ 0)
+            × (ticketWritten (r .retry) (r .search) sent out .count
             ≡ blockCount held)
-        made = ticket-made (r .retry) (r .search) (lentOf d (part (w .ends)) (part (w .marks)) (part (w .indexes))) out accepted-parts
+        made = ticket-made (r .retry) (r .search) sent out accepted-parts
             (omega (arith, blocks-most, room))
 
         abbrev count : ℕ
-        count = ticketWritten (r .retry) (r .search) (lentOf d (part (w .ends)) (part (w .marks)) (part (w .indexes))) out .count
+        count = ticketWritten (r .retry) (r .search) sent out .count
 
         blocks-within : count ≤ a .«ticket_blocks»
         blocks-within = rw (made .1) blocks-most

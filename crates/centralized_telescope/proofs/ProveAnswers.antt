@@ -1,4 +1,4 @@
--- The prover's answer by the lines of the table, from the top.
+-- The prover's refusals by the lines of the table, from the top, and its answer by them.
 use mathlib.Core.Path.{_≡_, refl, _∙_}
 use mathlib.Core.Bool.{Bool, true, false, cond}
 use mathlib.Core.List.{List}
@@ -9,14 +9,76 @@ use lib.ListN.{length}
 use Rattle.centralized_telescope.specs.declared.errors.Refusal.{Refusal}
 use Rattle.centralized_telescope.specs.declared.errors.Refusal.the-variants as refusal
 use Rattle.centralized_telescope.specs.declared.params.Params.{Params}
-use Rattle.centralized_telescope.specs.Refusals.{refusalNumber}
+use Rattle.centralized_telescope.specs.core.Refusals.{refusalNumber}
 use Rattle.centralized_telescope.specs.laws.RefusalsLaws.{refusal-number}
-use Rattle.centralized_telescope.specs.Params.{checked}
-use Rattle.centralized_telescope.specs.Elements.{elements, listCheck, Lent}
+use Rattle.centralized_telescope.specs.core.Params.{checked}
+use Rattle.centralized_telescope.specs.core.Elements.{elements, listCheck, Lent}
 use Rattle.centralized_telescope.specs.laws.TestLaws.{neither, unsaid}
-use Rattle.centralized_telescope.specs.laws.ListsLaws.{number-passed, number-met, second-met, two-passed, number-last, number-none}
-use Rattle.centralized_telescope.specs.Prover.{Proved, refused, served, workspaceShort, proverRefusal, proved}
-use Rattle.centralized_telescope.specs.Demand3.{Served}
+use Rattle.sampling.specs.core.FirstNumber.{line, firstNumber}
+use Rattle.sampling.specs.laws.FirstNumberLaws.{number-passed, number-met, second-met, two-passed, number-last, number-none}
+use Rattle.centralized_telescope.specs.core.Prover.{Proved, refused, bySearch, tableShort, workspaceShort, roomRefusals}
+use Rattle.centralized_telescope.specs.core.Prover.{proverRefusal}
+use Rattle.centralized_telescope.specs.core.Prover.{proved}
+use Rattle.centralized_telescope.specs.core.Demand3.{Served}
+
+-- ---- 6 and 10, with so many elements, places and bin-table numbers
+
+module _ (p : Params) (count places table : ℕ) where
+  abbrev last : ℕ
+  last = firstNumber (roomRefusals p count places table)
+
+  short : workspaceShort p places table ≡ true → last ≡ 6
+  short t = number-met (line 6 (workspaceShort p places table)) _ 6 (rw t) (refusal-number refusal.WorkspaceShort)
+
+  pub places-met : places < p .«proof_size» → last ≡ 6
+  places-met h = short (rw (lt-ltb places (p .«proof_size») h))
+
+  module _ (h : p .«proof_size» ≤ places) where
+    pub table-met : tableShort p table ≡ true → last ≡ 6
+    table-met t = short (rw (le-ltb places (p .«proof_size») h, t))
+
+    module _ (t : tableShort p table ≡ false) where
+      enough : workspaceShort p places table ≡ false
+      enough = rw (le-ltb places (p .«proof_size») h, t)
+
+      after-six : last ≡ line 10 (ltb count (p .«set_size»))
+      after-six =
+          number-passed (line 6 (workspaceShort p places table)) _ (rw enough)
+          ∙ number-last (line 10 (ltb count (p .«set_size»)))
+
+      pub few-met : count < p .«set_size» → last ≡ 10
+      few-met f = after-six ∙ rw (lt-ltb count (p .«set_size») f)
+
+      pub none-met : p .«set_size» ≤ count → last ≡ 0
+      none-met f = after-six ∙ rw (le-ltb count (p .«set_size») f)
+
+-- ---- all refusals, with so many places and bin-table numbers lent
+
+module _ (p : Params) (lent : Lent) (places table : ℕ) where
+  -- the number of the first line met
+  abbrev first : ℕ
+  first = proverRefusal p lent places table
+
+  -- 1, 2
+  pub settings-met : (k : Refusal) → checked p ≡ refusalNumber k → first ≡ refusalNumber k
+  unfolding proverRefusal
+  settings-met k e = number-met (checked p) _ (refusalNumber k) e (refusal-number k)
+
+  module _ (s : checked p ≡ 0) where
+    -- 4, 5
+    pub list-number-met : (k : ℕ) → (k ≡ 0 → ⊥) → listCheck lent ≡ k → first ≡ k
+    unfolding proverRefusal
+    list-number-met k n e = second-met (checked p) (listCheck lent) _ k s e n
+
+    pub list-met : (k : Refusal) → listCheck lent ≡ refusalNumber k → first ≡ refusalNumber k
+    list-met k e = list-number-met (refusalNumber k) (refusal-number k) e
+
+    -- 6, 10
+    pub room-decides : listCheck lent ≡ 0 → first ≡ firstNumber (roomRefusals p (length (lent .ends)) places table)
+    unfolding proverRefusal
+    room-decides l = two-passed (checked p) (listCheck lent) _ s l
+
+-- ---- the answer
 
 module _ (p : Params) (lent : Lent) (places table : List ℕ) where
   open Lent lent using (ends)
@@ -24,89 +86,31 @@ module _ (p : Params) (lent : Lent) (places table : List ℕ) where
   abbrev answer : Proved
   answer = proved p lent places table
 
-  refusal-is : (k : ℕ) → (k ≡ 0 → ⊥) → proverRefusal p lent places table ≡ k → answer ≡ refused k places table
+  -- the number of the first line met
+  abbrev met : ℕ
+  met = proverRefusal p lent (length places) (length table)
+
+  pub refused-by : (k : ℕ) → (k ≡ 0 → ⊥) → met ≡ k → answer ≡ refused k places table
   unfolding proved
-  refusal-is k n e = rw (e, ne-eqb k 0 n)
+  refused-by k n e = rw (e, ne-eqb k 0 n)
 
-  -- 1, 2
-  pub settings-refused : (k : Refusal) → checked p ≡ refusalNumber k → answer ≡ refused (refusalNumber k) places table
-  unfolding proverRefusal
-  settings-refused k e = refusal-is (refusalNumber k) (refusal-number k) (number-met (checked p) _ (refusalNumber k) e (refusal-number k))
+  -- the same of a refusal that `check_run` gives
+  pub run-refused : (k : Refusal) → met ≡ refusalNumber k → answer ≡ refused (refusalNumber k) places table
+  run-refused k e = refused-by (refusalNumber k) (refusal-number k) e
 
-  module _ (s : checked p ≡ 0) where
-    -- 4, 5
-    pub list-number : (k : ℕ) → (k ≡ 0 → ⊥) → listCheck lent ≡ k → answer ≡ refused k places table
-    unfolding proverRefusal
-    list-number k n e = refusal-is k n (second-met (checked p) (listCheck lent) _ k s e n)
-
-    pub list-refused : (k : Refusal) → listCheck lent ≡ refusalNumber k → answer ≡ refused (refusalNumber k) places table
-    list-refused k e = list-number (refusalNumber k) (refusal-number k) e
-
-    module _ (l : listCheck lent ≡ 0) where
-      -- 6
-      short : workspaceShort p places table ≡ true → answer ≡ refused 6 places table
-      unfolding proverRefusal
-      short t =
-          refusal-is 6 (refusal-number refusal.WorkspaceShort)
-          (two-passed (checked p) (listCheck lent) _ s l
-          ∙ number-met (cond (workspaceShort p places table) 6 0) _ 6 (rw t) (refusal-number refusal.WorkspaceShort))
-
-      pub places-short : length places < p .«proof_size» → answer ≡ refused 6 places table
-      places-short h = short (rw (lt-ltb (length places) (p .«proof_size») h))
-
-      module _ (h : p .«proof_size» ≤ length places) where
-        pub table-short : length table < 3 * p .«set_size» + 1 → answer ≡ refused 6 places table
-        table-short t = short (rw (le-ltb (length places) (p .«proof_size») h, lt-ltb (length table) (3 * p .«set_size» + 1) t))
-
-        module _ (t : 3 * p .«set_size» + 1 ≤ length table) where
-          enough : workspaceShort p places table ≡ false
-          enough = rw (le-ltb (length places) (p .«proof_size») h, le-ltb (length table) (3 * p .«set_size» + 1) t)
-
-          after-six : proverRefusal p lent places table ≡ cond (ltb (length ends) (p .«set_size»)) 10 0
-          unfolding proverRefusal
-          after-six =
-              two-passed (checked p) (listCheck lent) _ s l
-              ∙ number-passed (cond (workspaceShort p places table) 6 0) _ (rw enough)
-              ∙ number-last (cond (ltb (length ends) (p .«set_size»)) 10 0)
-
-          -- 10
-          pub few-refused : length ends < p .«set_size» → answer ≡ refused 10 places table
-          few-refused f = refusal-is 10 (refusal-number refusal.NotEnoughElements) (after-six ∙ rw (lt-ltb (length ends) (p .«set_size») f))
-
-          pub all-served : p .«set_size» ≤ length ends → answer ≡ served p (elements lent) places table
-          unfolding proved
-          all-served f = rw (eq-eqb _ 0 (after-six ∙ rw (le-ltb (length ends) (p .«set_size») f)))
-
--- the same of a run that demand 3 speaks of
-pub served-so : (p : Params) (lent : Lent) (places table : List ℕ) → Served p lent places table
-    → proved p lent places table ≡ served p (elements lent) places table
-served-so p lent places table S =
-    all-served p lent places table (S .settings) (S .list) (S .places-enough) (S .table-enough) (S .at-least)
-
--- a run that ends with a proof is such a run
-module _ (p : Params) (lent : Lent) (places table : List ℕ) where
-  open Lent lent using (ends)
-
-  passed-all : proved p lent places table .number ≡ 0 → proverRefusal p lent places table ≡ 0
+  pub run-served : met ≡ 0 → answer ≡ bySearch p (elements lent) places table
   unfolding proved
-  passed-all = go (eqb refusal 0) refl
-    where
-      refusal : ℕ
-      refusal = proverRefusal p lent places table
+  run-served e = rw (eq-eqb met 0 e)
 
-      go : (t : Bool) → eqb refusal 0 ≡ t → cond t (served p (elements lent) places table) (refused refusal places table) .number ≡ 0
-          → refusal ≡ 0
-      go true e h = eqb-true refusal 0 e
-      go false e h = h
-
-  pub found-served : proved p lent places table .number ≡ 0 → Served p lent places table
+  -- without a refusal it is a run that demand 3 speaks of
+  pub run-lawful : met ≡ 0 → Served p lent places table
   unfolding proverRefusal
-  found-served n =
-      let s = number-none _ _ (passed-all n) in
+  run-lawful e =
+      let s = number-none _ _ e in
       let l = number-none _ _ (s .1) in
       let w = number-none _ _ (l .1) in
       let f = number-none _ _ (w .1) in
-      let room = neither (ltb (length places) (p .«proof_size»)) (unsaid (workspaceShort p places table) 5 (w .0)) in
+      let room = neither (ltb (length places) (p .«proof_size»)) (unsaid (workspaceShort p (length places) (length table)) 5 (w .0)) in
       record {
         settings = s .0;
         list = l .0;
@@ -114,3 +118,22 @@ module _ (p : Params) (lent : Lent) (places table : List ℕ) where
         places-enough = ltb-false (length places) (p .«proof_size») (room .0);
         table-enough = ltb-false (length table) (3 * p .«set_size» + 1) (room .1);
       }
+
+  -- and each such run is served
+  pub served-so : Served p lent places table → answer ≡ bySearch p (elements lent) places table
+  served-so S =
+      run-served (room-decides p lent (length places) (length table) (S .settings) (S .list)
+      ∙ none-met p (length ends) (length places) (length table) (S .places-enough)
+      (le-ltb (length table) (3 * p .«set_size» + 1) (S .table-enough)) (S .at-least))
+
+  -- a run that ends with a proof was not refused
+  passed-all : answer .number ≡ 0 → met ≡ 0
+  unfolding proved
+  passed-all = go (eqb met 0) refl
+    where
+      go : (t : Bool) → eqb met 0 ≡ t → cond t (bySearch p (elements lent) places table) (refused met places table) .number ≡ 0 → met ≡ 0
+      go true e h = eqb-true met 0 e
+      go false e h = h
+
+  pub found-served : answer .number ≡ 0 → Served p lent places table
+  found-served n = run-lawful (passed-all n)

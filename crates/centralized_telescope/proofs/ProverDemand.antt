@@ -12,11 +12,11 @@ use borrow.Author.Tests.{le-leb, lt-leb, leb-false}
 use lib.Dec.{leb}
 use lib.ListN.{length, drop}
 use Rattle.centralized_telescope.specs.declared.params.Params.{Params}
-use Rattle.centralized_telescope.specs.Elements.{Element}
-use Rattle.centralized_telescope.specs.Chains.{tryOf, Chain, Passes}
-use Rattle.centralized_telescope.specs.Search.{K, tryCount, tryFinds, searched}
-use Rattle.centralized_telescope.specs.Prover.{Proved, answered}
-use Rattle.centralized_telescope.specs.Demand3.{Number, FirstPassing, HasProof, UpToPassing, sumUpTo, OfProver}
+use Rattle.centralized_telescope.specs.core.Elements.{Element}
+use Rattle.centralized_telescope.specs.core.Chains.{tryOf, Chain, Passes}
+use Rattle.centralized_telescope.specs.core.Search.{K, tryCount, tryFinds, searched}
+use Rattle.centralized_telescope.specs.core.Prover.{Proved, answered}
+use Rattle.centralized_telescope.specs.core.Demand3.{Number, FirstPassing, HasProof, UpToPassing, sumUpTo, OfProver}
 use Rattle.centralized_telescope.proofs.TryFinds.{K-number, finds-first, finds-none, finds-none-below}
 use Rattle.centralized_telescope.proofs.Tries.{within-sum, Ran, search-ran, search-counted}
 

@@ -1,25 +1,26 @@
--- What a search that is ready knows: the limits, and its bin table's starts, parts and entries.
+-- What a search that is ready knows: the limits, and what it may read of its bin table and its source.
 use mathlib.Core.Path.{_≡_, ap, _∙_}
 use mathlib.Core.List.{List}
-use Prim.Native.Nat.{ℕ, _+_, _-_, _*_, _^_, _≤_, _<_}
+use Prim.Native.Nat.{ℕ, _*_, _^_, _≤_, _<_}
 use native.Mathlib.Omega.{arith}
-use lib.ListN.{length, getD, length-append, length-take}
+use lib.ListN.{length, getD, length-take}
 use lib.Seq.{slice}
 use Rattle.centralized_telescope.specs.declared.params.Params.{Params}
 use Rattle.centralized_telescope.specs.laws.ParamsLaws.{Lawful, lawful}
-use Rattle.centralized_telescope.specs.Elements.{elements, elementAt, Lent}
-use Rattle.centralized_telescope.specs.laws.ElementsLaws.{length-elements, at-kept}
-use Rattle.centralized_telescope.specs.Bins.{startOf, tableOf}
-use Rattle.centralized_telescope.specs.laws.BinsLaws.{length-table, starts-ascend, start-bound, table-start, table-part, table-entry}
-use Rattle.centralized_telescope.specs.Chains.{Try}
-use Rattle.centralized_telescope.specs.Search.{binsOf, placesIn}
+use Rattle.centralized_telescope.specs.core.Elements.{elementAt}
+use Rattle.centralized_telescope.specs.laws.ElementsLaws.{at-kept}
+use Rattle.centralized_telescope.specs.core.Rounds.{nextHash}
+use Rattle.centralized_telescope.specs.core.Chains.{Try}
+use Rattle.centralized_telescope.specs.core.Search.{binsOf, placesIn, nextAt}
 use Rattle.centralized_telescope.specs.laws.TryLaws.{length-binList}
-use Rattle.centralized_telescope.specs.inner.Visit.{tryOn, Ready, Span}
+use Rattle.centralized_telescope.specs.inner.Source.{Source, meant, CanRead}
+use Rattle.centralized_telescope.specs.inner.BinSpans.{HoldsBin}
+use Rattle.centralized_telescope.specs.inner.Visit.{tryOn, Ready}
+use Rattle.centralized_telescope.proofs.BinSpans.{table-has, entry-listed}
 
-module _ {p : Params} {lent : Lent} {R : ℕ} {table : List ℕ} {room : ℕ}
-    (r : Ready p lent R table room) where
+module _ {p : Params} {s : Source} {R : ℕ} {table : List ℕ} {room : ℕ} (r : Ready p s R table room) where
   abbrev T : Try
-  T = tryOn p lent R
+  T = tryOn p s R
 
   abbrev N : ℕ
   N = p .«set_size»
@@ -38,74 +39,31 @@ module _ {p : Params} {lent : Lent} {R : ℕ} {table : List ℕ} {room : ℕ}
   pub bound-most : p .«dfs_bound» ≤ 2 ^ 48
   bound-most = law .limits .dfs-bound
 
-  -- ---- the kept elements
-
-  length-kept : length (T .kept) ≤ length (lent .ends)
-  length-kept = omega (arith, length-take (2 * N) (elements lent), length-elements lent (r .list))
-
-  kept-most : length (T .kept) ≤ 2 * N
-  kept-most = omega (arith, length-take (2 * N) (elements lent))
-
-  pub same-element : (place : ℕ) → place < length (T .kept) → elementAt (elements lent) place ≡ elementAt (T .kept) place
-  same-element place l = at-kept (2 * N) (elements lent) place l
-
   -- ---- the table
 
-  abbrev bins : List ℕ
-  bins = binsOf T
+  pub table-there : N < length table
+  table-there = table-has N (binsOf T) (r .rest) table (r .table-is)
 
-  bins-most : length bins ≤ 2 * N
-  bins-most = omega (arith, kept-most, length-binList N R (T .kept))
+  -- a bin's span in it, and an entry there
+  module _ {bin from to : ℕ} (span : HoldsBin (binsOf T) table bin from to) where
+    pub bin-read : slice from to table ≡ placesIn T bin
+    unfolding placesIn
+    bin-read = span .places
 
-  start-is : (i : ℕ) → i ≤ N → getD table i 0 ≡ startOf bins i
-  start-is i l = ap (λ (t : List ℕ). getD t i 0) (r .table-is) ∙ table-start N bins (r .rest) i l
+    module _ (i : ℕ) (low : from ≤ i) (high : i < to) where
+      entry-kept : getD table i 0 < length (T .kept)
+      entry-kept = omega (arith, entry-listed span i low high, length-binList N R (T .kept))
 
-  pub table-rises : (i : ℕ) → i < N → getD table i 0 ≤ getD table (i + 1) 0
-  table-rises i l = omega (arith, start-is i (omega arith), start-is (i + 1) (omega arith), starts-ascend bins i (i + 1) (omega arith))
+      -- by what was read of it
+      module _ (place : ℕ) (is : place ≡ getD table i 0) where
+        pub entry-readable : CanRead s place
+        entry-readable = record {
+          source = r .source;
+          there = omega (arith, entry-kept, length-take (2 * N) (meant s));
+        }
 
-  pub table-within : (i : ℕ) → i < N → getD table (i + 1) 0 ≤ getD table N 0
-  table-within i l = omega (arith, start-is (i + 1) (omega arith), start-is N (omega arith), starts-ascend bins (i + 1) N (omega arith))
-
-  pub table-all : N + 1 + getD table N 0 ≤ length table
-  table-all =
-      omega (
-        arith,
-        start-is N (omega arith),
-        start-bound bins N,
-        bins-most,
-        ap length (r .table-is),
-        length-append (tableOf N bins) (r .rest),
-        length-table N bins bins-most,
-      )
-
-  pub table-most : getD table N 0 ≤ 65536
-  table-most = omega (arith, start-is N (omega arith), start-bound bins N, bins-most, set-size-most)
-
-  pub entry-kept : (j : ℕ) → N + 1 ≤ j → j < N + 1 + getD table N 0 → getD table j 0 < length (T .kept)
-  entry-kept j l h =
-      let e = table-entry N bins (r .rest) j l (omega (arith, start-is N (omega arith))) in
-      omega (arith, e, length-binList N R (T .kept), ap (λ (t : List ℕ). getD t j 0) (r .table-is))
-
-  pub entry-there : (j : ℕ) → N + 1 ≤ j → j < N + 1 + getD table N 0 → getD table j 0 < length (lent .ends)
-  entry-there j l h = omega (arith, entry-kept j l h, length-kept)
-
-  pub table-bin : (i : ℕ) → i < N → slice (N + 1 + getD table i 0) (N + 1 + getD table (i + 1) 0) table ≡ placesIn T i
-  unfolding placesIn
-  table-bin i l =
-      rw (start-is i (omega arith), start-is (i + 1) (omega arith))
-      (ap (λ (t : List ℕ). slice (N + 1 + startOf bins i) (N + 1 + startOf bins (i + 1)) t) (r .table-is) ∙ table-part N bins (r .rest) i l)
-
-  -- a bin's part, by what was read of the table
-  module _ (i : ℕ) (l : i < N) (f t : ℕ) (ef : f ≡ getD table i 0) (et : t ≡ getD table (i + 1) 0) where
-    pub bin-span : Span p table (N + 1 + f) (N + 1 + t)
-    bin-span = record {
-      low = omega arith;
-      order = omega (arith, table-rises i l);
-      high = omega (arith, table-within i l);
-    }
-
-    pub bin-read : slice (N + 1 + f) (N + 1 + t) table ≡ placesIn T i
-    bin-read = rw (ef, et) (table-bin i l)
-
-    pub bin-short : N + 1 + t - (N + 1 + f) ≤ length table
-    bin-short = omega (arith, table-within i l, table-all)
+        pub entry-hash : (h g : List ℕ) → g ≡ nextHash h (elementAt (meant s) place) → g ≡ nextAt T h (getD table i 0)
+        entry-hash h g e =
+            e
+            ∙ ap (λ (k : ℕ). nextHash h (elementAt (meant s) k)) is
+            ∙ ap (nextHash h) (at-kept (2 * N) (meant s) (getD table i 0) entry-kept)

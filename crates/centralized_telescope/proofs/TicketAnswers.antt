@@ -1,6 +1,6 @@
 -- The answers of `write_ticket` and `read_ticket` by their tests, in their order.
 use mathlib.Core.Path.{_≡_, sym, ap, _∙_}
-use mathlib.Core.Bool.{Bool, true, false, cond}
+use mathlib.Core.Bool.{Bool, true, false, not}
 use mathlib.Core.List.{List, _++_, append-assoc}
 use Prim.Native.Nat.{ℕ, _+_, _-_, _*_, _≤_, _<_}
 use native.Mathlib.Omega.{arith}
@@ -11,17 +11,18 @@ use lib.ListN.{length, drop, replicate, length-drop}
 use lib.Seq.{take-at, drop-at, drop-drop, drop-append-add, length-take-le}
 use Rattle.centralized_telescope.specs.declared.errors.Refusal.{Refusal}
 use Rattle.centralized_telescope.specs.declared.errors.Refusal.the-variants as refusal
-use Rattle.centralized_telescope.specs.Lists.{over}
-use Rattle.centralized_telescope.specs.Refusals.{refusalNumber}
-use Rattle.centralized_telescope.specs.Elements.{Element, elements, listCheck, Lent, lentOf}
-use Rattle.centralized_telescope.specs.ProofList.{ProofList, joined, listOver, buffersShort, withBuffers}
-use Rattle.centralized_telescope.specs.Blocks.{blockCount, filled, sealed, blocks, bodiesOf, damaged}
-use Rattle.centralized_telescope.specs.Tickets.{content, ticket, TicketWritten, ticketWriteRefusal, ticketWritten, retryIn, searchIn}
-use Rattle.centralized_telescope.specs.Tickets.{countIn, elementsIn, proofIn, isTicket, TicketRead, unread, readOut}
-use Rattle.centralized_telescope.specs.Tickets.{ticketReadRefusal, ticketRead, elementsPart}
+use Rattle.centralized_telescope.specs.core.Lists.{over}
+use Rattle.centralized_telescope.specs.core.Refusals.{refusalNumber}
+use Rattle.centralized_telescope.specs.core.Elements.{Element, elements, listCheck, Lent}
+use Rattle.centralized_telescope.specs.later.ProofList.{ProofList, joinedData, listOver, buffersShort, withBuffers}
+use Rattle.centralized_telescope.specs.later.Blocks.{blockCount, filled, sealed, blocks, bodiesOf, damaged, bodyBytes, blockBytes}
+use Rattle.centralized_telescope.specs.later.Tickets.{content, ticket, TicketWritten, ticketWriteRefusal, ticketWritten, retryIn}
+use Rattle.centralized_telescope.specs.later.Tickets.{searchIn, countIn, elementsIn, proofIn, isTicket, unread, readOut}
+use Rattle.centralized_telescope.specs.later.Tickets.{ticketReadRefusal, ticketRead, elementsPart, readOf}
 use Rattle.centralized_telescope.specs.inner.TicketReading.{FoundIs}
 use Rattle.centralized_telescope.specs.laws.RefusalsLaws.{refusal-number}
-use Rattle.centralized_telescope.specs.laws.ListsLaws.{number-passed, number-met, second-met, two-passed, number-last}
+use Rattle.sampling.specs.core.FirstNumber.{line}
+use Rattle.sampling.specs.laws.FirstNumberLaws.{number-passed, number-met, second-met, two-passed, number-last}
 use Rattle.centralized_telescope.specs.laws.TicketsLaws.{elements-count, data-size}
 use Rattle.centralized_telescope.specs.laws.BlocksLaws.{length-filled, length-blocks, sealed-front}
 
@@ -48,16 +49,16 @@ module _ (R S : ℕ) (lent : Lent) (out : List ℕ) where
 
   -- the list is accepted, and the code has worked out how long the content is
   module _ (A : listCheck lent ≡ 0) (size : ℕ) (Z : size ≡ length body) where
-    pub room-met : (t : Bool) → ltb (length out) (512 * blockCount size) ≡ t → ticketWriteRefusal R S lent out ≡ cond t 42 0
+    pub room-met : (t : Bool) → ltb (length out) (blockBytes * blockCount size) ≡ t → ticketWriteRefusal R S lent out ≡ line 42 t
     unfolding ticketWriteRefusal
-    room-met t e = number-passed (listCheck lent) _ A ∙ rw (← Z, e) (number-last (cond t 42 0))
+    room-met t e = number-passed (listCheck lent) _ A ∙ rw (← Z, e) (number-last (line 42 t))
 
-    pub write-short : length out < 512 * blockCount size → notWritten 42 out ≡ ticketWritten R S lent out
-    write-short h = refused refusal.BufferShort (room-met true (lt-ltb (length out) (512 * blockCount size) h))
+    pub write-short : length out < blockBytes * blockCount size → notWritten 42 out ≡ ticketWritten R S lent out
+    write-short h = refused refusal.BufferShort (room-met true (lt-ltb (length out) (blockBytes * blockCount size) h))
 
-    module _ (h : 512 * blockCount size ≤ length out) where
+    module _ (h : blockBytes * blockCount size ≤ length out) where
       abbrev bodies : ℕ
-      bodies = 504 * blockCount size
+      bodies = bodyBytes * blockCount size
 
       -- content and zeros, in the place of the bytes that were there
       module _ (out₁ z : List ℕ) (E : out₁ ≡ over body out) (F : z ≡ replicate (length (midOf size (bodies - size) out₁)) 0) where
@@ -87,12 +88,12 @@ module _ (R S : ℕ) (lent : Lent) (out : List ℕ) where
 
         -- the blocks of the content, and what lay past them
         all-sealed : sealed (blockCount size) (filled body ++ drop bodies out)
-            ++ drop (512 * blockCount size) (filled body ++ drop bodies out) ≡ over (ticket R S (elements lent)) out
+            ++ drop (blockBytes * blockCount size) (filled body ++ drop bodies out) ≡ over (ticket R S (elements lent)) out
         unfolding ticket blocks
         all-sealed =
             let c = ap blockCount Z in
-            let l : length (filled body) ≡ bodies = length-filled body ∙ ap (λ (k : ℕ). 504 * k) (sym c) in
-            let q : 512 * blockCount size ≡ length (filled body) + 8 * blockCount size = omega arith in
+            let l : length (filled body) ≡ bodies = length-filled body ∙ ap (λ (k : ℕ). bodyBytes * k) (sym c) in
+            let q : blockBytes * blockCount size ≡ length (filled body) + 8 * blockCount size = omega arith in
             let p : bodies + 8 * blockCount size ≡ length (blocks body) = omega (arith, length-blocks body, c) in
             ap (λ (t : List ℕ). sealed (blockCount size) (filled body ++ drop bodies out) ++ t)
             (ap (λ (k : ℕ). drop k (filled body ++ drop bodies out)) q
@@ -104,16 +105,14 @@ module _ (R S : ℕ) (lent : Lent) (out : List ℕ) where
 
         pub write-done : (out₃ : List ℕ)
             → out₃ ≡ sealed (blockCount size) (putMid size (bodies - size) out₁ z)
-            ++ drop (512 * blockCount size) (putMid size (bodies - size) out₁ z)
+            ++ drop (blockBytes * blockCount size) (putMid size (bodies - size) out₁ z)
             → _≡_ {A = TicketWritten} (record { number = 0; count = blockCount size; buffer = out₃ }) (ticketWritten R S lent out)
         unfolding ticketWritten
-        write-done out₃ G = rw (room-met false (le-ltb (length out) (512 * blockCount size) h), ← Z, G, in-bodies, all-sealed)
+        write-done out₃ G = rw (room-met false (le-ltb (length out) (blockBytes * blockCount size) h), ← Z, G, in-bodies, all-sealed)
 
 -- ---- the reader
 
 module _ (t : List ℕ) (buffers : Lent) where
-  open Lent buffers using (bytes as b, ends as n, marks as m, indexes as x)
-
   abbrev bs : List ℕ
   bs = bodiesOf t
 
@@ -126,7 +125,7 @@ module _ (t : List ℕ) (buffers : Lent) where
 
   damaged-met : damaged t ≡ true → ticketReadRefusal t buffers ≡ 40
   unfolding ticketReadRefusal
-  damaged-met e = number-met (cond (damaged t) 40 0) _ 40 (rw e) (refusal-number refusal.DamagedTicket)
+  damaged-met e = number-met (line 40 (damaged t)) _ 40 (rw e) (refusal-number refusal.DamagedTicket)
 
   pub read-damaged : damaged t ≡ true → unread 40 buffers ≡ ticketRead t buffers
   read-damaged e = unread-is refusal.DamagedTicket (damaged-met e)
@@ -134,7 +133,7 @@ module _ (t : List ℕ) (buffers : Lent) where
   module _ (D : damaged t ≡ false) where
     layout-met : isTicket t ≡ false → ticketReadRefusal t buffers ≡ 41
     unfolding ticketReadRefusal
-    layout-met e = second-met (cond (damaged t) 40 0) (cond (isTicket t) 0 41) _ 41 (rw D) (rw e) (refusal-number refusal.NoTicket)
+    layout-met e = second-met (line 40 (damaged t)) (line 41 (not (isTicket t))) _ 41 (rw D) (rw e) (refusal-number refusal.NoTicket)
 
     pub no-ticket : isTicket t ≡ false → unread 41 buffers ≡ ticketRead t buffers
     no-ticket e = unread-is refusal.NoTicket (layout-met e)
@@ -144,32 +143,30 @@ module _ (t : List ℕ) (buffers : Lent) where
       count-is : count ≡ length es
       count-is = F .counted ∙ sym (elements-count (countIn bs) (elementsPart bs))
 
-      size-is : size ≡ length (joined es)
+      size-is : size ≡ length (joinedData es)
       size-is =
           F .uses ∙ data-size count (elementsPart bs) (F .laid)
-          ∙ ap (λ (k : ℕ). length (joined (elementsIn k (elementsPart bs)))) (F .counted)
+          ∙ ap (λ (k : ℕ). length (joinedData (elementsIn k (elementsPart bs)))) (F .counted)
 
       abbrev short : Bool
-      short = buffersShort count size (length b) (length n) (length m) (length x)
+      short = buffersShort count size buffers
 
-      room-says : (u v : Bool) → u ≡ short → u ≡ v → ticketReadRefusal t buffers ≡ cond v 42 0
+      room-says : (u v : Bool) → u ≡ short → u ≡ v → ticketReadRefusal t buffers ≡ line 42 v
       unfolding ticketReadRefusal
       room-says u v e f =
-          two-passed (cond (damaged t) 40 0) (cond (isTicket t) 0 41) _ (rw D) (rw (F .is))
-          ∙ rw (← count-is, ← size-is, sym e ∙ f) (number-last (cond v 42 0))
+          two-passed (line 40 (damaged t)) (line 41 (not (isTicket t))) _ (rw D) (rw (F .is))
+          ∙ rw (← count-is, ← size-is, sym e ∙ f) (number-last (line 42 v))
 
       pub room-short : (u : Bool) → u ≡ short → u ≡ true → unread 42 buffers ≡ ticketRead t buffers
       room-short u e f = unread-is refusal.BufferShort (room-says u true e f)
 
-      pub read-done : (R S len : ℕ) (b′ n′ m′ x′ : List ℕ) (u : Bool) → u ≡ short → u ≡ false
+      pub read-done : (R S len : ℕ) (buffers′ : Lent) (u : Bool) → u ≡ short → u ≡ false
           → R ≡ retryIn bs → S ≡ searchIn bs
-          → withBuffers 0 len (lentOf b′ n′ m′ x′) ≡ listOver (elementsIn count (elementsPart bs)) buffers
-          → _≡_ {A = TicketRead}
-          (record { number = 0; retry = R; search = S; count = count; len = len; bytes = b′; ends = n′; marks = m′; indexes = x′ })
-          (ticketRead t buffers)
+          → withBuffers 0 len buffers′ ≡ listOver (elementsIn count (elementsPart bs)) buffers
+          → readOf 0 R S count len buffers′ ≡ ticketRead t buffers
       unfolding ticketRead readOut listOver
-      read-done R S len b′ n′ m′ x′ u e f P Q W =
-          let same : withBuffers 0 len (lentOf b′ n′ m′ x′) ≡ listOver es buffers =
+      read-done R S len buffers′ u e f P Q W =
+          let same : withBuffers 0 len buffers′ ≡ listOver es buffers =
           W ∙ ap (λ (k : ℕ). listOver (elementsIn k (elementsPart bs)) buffers) (F .counted) in
           rw (
             room-says u false e f,
@@ -177,8 +174,5 @@ module _ (t : List ℕ) (buffers : Lent) where
             Q,
             count-is,
             ap (λ (w : ProofList). w .len) same,
-            ap (λ (w : ProofList). w .bytes) same,
-            ap (λ (w : ProofList). w .ends) same,
-            ap (λ (w : ProofList). w .marks) same,
-            ap (λ (w : ProofList). w .indexes) same,
+            ap (λ (w : ProofList). w .buffers) same,
           )

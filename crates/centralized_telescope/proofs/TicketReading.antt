@@ -10,13 +10,13 @@ use borrow.Author.Tests.{le-leb, lt-leb}
 use lib.Dec.{ltb}
 use lib.ListN.{length, getD, take, drop, set, length-drop, take-append-drop}
 use lib.Seq.{length-take-le, drop-append-le, take-all, take-at, take-suc, drop-cons, drop-drop}
-use Rattle.sampling.specs.BigEndian.{bigEndian}
+use Rattle.sampling.specs.core.BigEndian.{bigEndian}
 use Rattle.sampling.specs.laws.BigEndianLaws.{bigEndian-append}
-use Rattle.centralized_telescope.specs.Lists.{someOf}
-use Rattle.centralized_telescope.specs.Blocks.{bodies, bodiesOf}
-use Rattle.centralized_telescope.specs.Elements.{Element, lentOf}
-use Rattle.centralized_telescope.specs.ProofList.{listOver, withBuffers}
-use Rattle.centralized_telescope.specs.Tickets.{blocksIn, elementIn, elementsIn, elementsPart}
+use Rattle.centralized_telescope.specs.core.Lists.{someOf}
+use Rattle.centralized_telescope.specs.later.Blocks.{bodies, bodiesOf, bodyBytes, blockBytes, maxFilling}
+use Rattle.centralized_telescope.specs.core.Elements.{Element, lentOf, maxDataBytes}
+use Rattle.centralized_telescope.specs.later.ProofList.{listOver, withBuffers}
+use Rattle.centralized_telescope.specs.later.Tickets.{blocksIn, elementIn, elementsIn, elementsPart, ticketHeadBytes}
 use Rattle.centralized_telescope.specs.declared.ticket.HeadRead.{HeadRead}
 use Rattle.centralized_telescope.specs.inner.TicketReading.{markIn, headSize, sizeIn, laidOut, HeadIs, allLaidOut, layoutSize}
 use Rattle.centralized_telescope.specs.inner.TicketReading.{dataSize, LayoutIs, fillingRight}
@@ -28,35 +28,35 @@ use Rattle.centralized_telescope.proofs.ProofWriting.{written-more}
 
 -- ---- the joined bodies
 
-pub length-of-bodies : (t : List ℕ) → length (bodiesOf t) ≡ 504 * (length t / 512)
-length-of-bodies t = length-bodies (length t / 512) t (omega arith)
+pub length-of-bodies : (t : List ℕ) → length (bodiesOf t) ≡ bodyBytes * (length t / blockBytes)
+length-of-bodies t = length-bodies (length t / blockBytes) t (omega arith)
 
-pub left-of-bodies : (t : List ℕ) (at : ℕ) → length (drop at (bodiesOf t)) ≡ 504 * (length t / 512) - at
+pub left-of-bodies : (t : List ℕ) (at : ℕ) → length (drop at (bodiesOf t)) ≡ bodyBytes * (length t / blockBytes) - at
 left-of-bodies t at = length-drop at (bodiesOf t) ∙ ap (λ (n : ℕ). n - at) (length-of-bodies t)
 
 -- ---- a number that was copied to the front of an array
 
-pub field-copied : (t : List ℕ) (at k : ℕ) (z r : List ℕ) → at + k ≤ 504 * (length t / 512)
+pub field-copied : (t : List ℕ) (at k : ℕ) (z r : List ℕ) → at + k ≤ bodyBytes * (length t / blockBytes)
     → r ≡ take 0 z ++ (take k (drop at (bodiesOf t)) ++ drop (0 + k) z) → bigEndian k (drop 0 r) ≡ bigEndian k (drop at (bodiesOf t))
 field-copied t at k z r h e =
     rw e (number-front k k (drop at (bodiesOf t)) (drop (0 + k) z) (omega arith) (omega (arith, left-of-bodies t at)))
 
 -- ---- the number of blocks: less than one block states none
 
-pub none-stated : (t : List ℕ) → length t < 512 → 0 ≡ blocksIn (bodiesOf t)
+pub none-stated : (t : List ℕ) → length t < blockBytes → 0 ≡ blocksIn (bodiesOf t)
 unfolding bodies bigEndian
-none-stated t h = let e : length t / 512 ≡ 0 = omega arith in rw e
+none-stated t h = let e : length t / blockBytes ≡ 0 = omega arith in rw e
 
--- ---- the head of the element at a place
+-- ---- the head of the element at an offset
 
-pub laid : (s : List ℕ) → markIn s ≤ 1 → sizeIn s ≤ 4096 → headSize s + sizeIn s ≤ length s → laidOut s ≡ true
+pub laid : (s : List ℕ) → markIn s ≤ 1 → sizeIn s ≤ maxDataBytes → headSize s + sizeIn s ≤ length s → laidOut s ≡ true
 unfolding laidOut
 laid s m z w =
     rw (
       le-leb 5 (length s) (omega arith),
       le-leb (markIn s) 1 m,
       le-leb (headSize s) (length s) (omega arith),
-      le-leb (sizeIn s) 4096 z,
+      le-leb (sizeIn s) maxDataBytes z,
       le-leb (headSize s + sizeIn s) (length s) w,
     )
 
@@ -90,17 +90,17 @@ module _ (s : List ℕ) (k : ℕ) (h : k ≤ length s) (z r : List ℕ) (C : r �
         let q : 5 + 8 * m - 4 ≡ 1 + 8 * m = omega arith in
         rw (← M, ← q) (e ∙ number-there (5 + 8 * m - 4) 4 (omega arith))
 
--- ---- the layout: the first i of `count` elements are passed, they end at a place, and they have so many data bytes
+-- ---- the layout: the first i of `count` elements are passed, they end at an offset, and they have so many data bytes
 
 pub record Passed (t : List ℕ) (count i at used : ℕ) : Type 0 where
   pub most : i ≤ count
-  pub within : at ≤ 504 * (length t / 512)
-  pub small : used ≤ 4096 * i
+  pub within : at ≤ bodyBytes * (length t / blockBytes)
+  pub small : used ≤ maxDataBytes * i
   pub laid : allLaidOut count (elementsPart (bodiesOf t)) ≡ allLaidOut (count - i) (drop at (bodiesOf t))
-  pub ends-at : at + layoutSize (count - i) (drop at (bodiesOf t)) ≡ 24 + layoutSize count (elementsPart (bodiesOf t))
+  pub ends-at : at + layoutSize (count - i) (drop at (bodiesOf t)) ≡ ticketHeadBytes + layoutSize count (elementsPart (bodiesOf t))
   pub uses : used + dataSize (count - i) (drop at (bodiesOf t)) ≡ dataSize count (elementsPart (bodiesOf t))
 
-pub none-passed : (t : List ℕ) (count : ℕ) → 24 ≤ 504 * (length t / 512) → Passed t count 0 24 0
+pub none-passed : (t : List ℕ) (count : ℕ) → ticketHeadBytes ≤ bodyBytes * (length t / blockBytes) → Passed t count 0 ticketHeadBytes 0
 none-passed t count h =
     let e : count - 0 ≡ count = omega arith in
     record { most = omega arith; within = h; small = omega arith; laid = rw e; ends-at = rw e; uses = rw e (omega arith) }
@@ -147,19 +147,19 @@ module _ (t : List ℕ) (count i at used : ℕ) (p : Passed t count i at used) w
 
 -- ---- what follows the elements
 
-pub filling-long : (s : List ℕ) → 503 < length s → false ≡ fillingRight s
+pub filling-long : (s : List ℕ) → maxFilling < length s → false ≡ fillingRight s
 unfolding fillingRight
-filling-long s h = rw (lt-leb (length s) 503 h)
+filling-long s h = rw (lt-leb (length s) maxFilling h)
 
 -- with the bytes copied to the front of an array
-pub filling-copied : (n : ℕ) (s z r : List ℕ) → n ≡ length s → n ≤ 503 → r ≡ take 0 z ++ (take n s ++ drop (0 + n) z)
+pub filling-copied : (n : ℕ) (s z r : List ℕ) → n ≡ length s → n ≤ maxFilling → r ≡ take 0 z ++ (take n s ++ drop (0 + n) z)
     → not (someOf (ltb 0) (take n r)) ≡ fillingRight s
 unfolding fillingRight
 filling-copied n s z r N h e =
     let a : take n s ≡ s = take-all n s (omega arith) in
-    rw (e, a, take-at s (drop (0 + n) z) n (sym N), le-leb (length s) 503 (omega arith))
+    rw (e, a, take-at s (drop (0 + n) z) n (sym N), le-leb (length s) maxFilling (omega arith))
 
--- ---- the elements: the first i are read, and the rest stand at the place
+-- ---- the elements: the first i are read, and the rest stand at the offset
 
 abbrev pub elementsOf : List ℕ → ℕ → List Element
 elementsOf t count = elementsIn count (elementsPart (bodiesOf t))
@@ -167,7 +167,7 @@ elementsOf t count = elementsIn count (elementsPart (bodiesOf t))
 abbrev pub Rest : List ℕ → ℕ → ℕ → ℕ → Type 0
 Rest t count i at = elementsIn (count - i) (drop at (bodiesOf t)) ≡ drop i (elementsOf t count)
 
-pub none-read : (t : List ℕ) (count : ℕ) → Rest t count 0 24
+pub none-read : (t : List ℕ) (count : ℕ) → Rest t count 0 ticketHeadBytes
 none-read t count = let e : count - 0 ≡ count = omega arith in rw e
 
 module _ (t : List ℕ) (count i at : ℕ) (h : i < count) (F : Rest t count i at) (r : HeadRead) (R : HeadIs r (drop at (bodiesOf t))) where

@@ -1,170 +1,20 @@
--- Writing a ticket: an element's head, the bytes that elements take, and one element more behind those that are written.
+-- Writing a ticket: what stands before its elements, and the whole content over a buffer.
 use mathlib.Core.Path.{_≡_, refl, sym, ap, _∙_}
 use mathlib.Core.List.{List, [], _∷_, _++_, append-assoc, append-nil}
-use mathlib.Core.Option.{none}
-use Prim.Native.Nat.{ℕ, suc, _+_, _*_, _≤_, _<_}
-use native.Mathlib.Numerals.{add-one}
+use Prim.Native.Nat.{ℕ, _+_}
 use native.Mathlib.Omega.{arith}
-use borrow.Author.Tests.{eq-eqb, ne-eqb}
 use borrow.Rule.Slice.PartMut.{putMid}
-use lib.ListN.{length, take, drop, length-append, take-append-drop}
-use lib.Seq.{take-at, drop-at, take-all, take-suc, drop-append-add, drop-drop}
-use Rattle.sampling.specs.BigEndian.{bytesOf}
+use lib.ListN.{length, take, drop, length-append}
+use lib.Seq.{take-at, drop-at, drop-append-add, drop-drop}
+use Rattle.sampling.specs.core.BigEndian.{bytesOf}
 use Rattle.sampling.specs.laws.BigEndianLaws.{length-bytesOf}
-use Rattle.centralized_telescope.specs.Elements.{Element, elementAt, elements, indexOf, markOf, numberOf, listCheck, Lent}
-use Rattle.centralized_telescope.specs.Lists.{over}
-use Rattle.centralized_telescope.specs.Blocks.{blockCount}
-use Rattle.centralized_telescope.specs.Tickets.{headBytes, elementBytes, elementsBytes, content}
-use Rattle.centralized_telescope.specs.inner.ListReading.{dataAt, indexAt}
-use Rattle.centralized_telescope.specs.laws.ElementsLaws.{index-again, data-there, index-there, length-elements, data-short}
+use Rattle.centralized_telescope.specs.core.Elements.{Element}
+use Rattle.centralized_telescope.specs.core.Lists.{over}
+use Rattle.centralized_telescope.specs.later.Blocks.{blockCount}
+use Rattle.centralized_telescope.specs.later.ElementBytes.{elementsBytes}
+use Rattle.centralized_telescope.specs.later.Tickets.{content, ticketHeadBytes}
 use Rattle.centralized_telescope.specs.laws.ListsLaws.{take-over}
-use Rattle.centralized_telescope.specs.laws.TicketsLaws.{length-element}
-use Rattle.centralized_telescope.proofs.ProofWriting.{over-append}
-
--- ---- an element's head in an array
-
-pub head-plain : (mark v size : ℕ) (r z : List ℕ) → (mark ≡ 1 → ⊥) → r ≡ bytesOf 4 size
-    → (5 ≤ suc (length (r ++ z))) × (take 5 (0 ∷ (r ++ z)) ≡ headBytes (indexOf mark v) size)
-head-plain mark v size r z k e =
-    rw (ne-eqb mark 1 k, e) (
-      omega (arith, length-append (bytesOf 4 size) z, length-bytesOf 4 size),
-      ap (λ (l : List ℕ). 0 ∷ l) (take-at (bytesOf 4 size) z 4 (length-bytesOf 4 size)),
-    )
-
--- behind the index, the four bytes that are left of the array
-pub head-indexed : (mark v size : ℕ) (r q z p : List ℕ) → mark ≡ 1 → length z ≡ 4 → r ≡ bytesOf 8 v
-    → q ≡ bytesOf (length (take 4 (drop 8 (r ++ z)))) size
-    → (13 ≤ suc (length (take 8 (r ++ z) ++ (q ++ p)))) × (take 13 (1 ∷ (take 8 (r ++ z) ++ (q ++ p))) ≡ headBytes (indexOf mark v) size)
-head-indexed mark v size r q z p k n e f =
-    let i = length-bytesOf 8 v in
-    let l = length-bytesOf 4 size in
-    let four : length (take 4 (drop 8 (r ++ z))) ≡ 4 = rw (e, drop-at (bytesOf 8 v) z 8 i, take-all 4 z (omega arith)) n in
-    rw (eq-eqb mark 1 k, e, f ∙ ap (λ (j : ℕ). bytesOf j size) four, take-at (bytesOf 8 v) z 8 i) (
-      omega (arith, length-append (bytesOf 8 v) (bytesOf 4 size ++ p), length-append (bytesOf 4 size) p, i, l),
-      ap (λ (l : List ℕ). 1 ∷ l)
-          (rw (← append-assoc (bytesOf 8 v) (bytesOf 4 size) p)
-          (take-at (bytesOf 8 v ++ bytesOf 4 size) p 12 (omega (arith, length-append (bytesOf 8 v) (bytesOf 4 size), i, l)))),
-    )
-
--- ---- the bytes that elements take
-
-elements-append : (es fs : List Element) → elementsBytes (es ++ fs) ≡ elementsBytes es ++ elementsBytes fs
-unfolding elementsBytes
-elements-append [] fs = refl
-elements-append (e ∷ es) fs = rw (elements-append es fs, append-assoc)
-
-pub no-bytes : elementsBytes [] ≡ []
-unfolding elementsBytes
-no-bytes = refl
-
-one-element : (e : Element) → elementsBytes (e ∷ []) ≡ elementBytes e
-unfolding elementsBytes
-one-element e = append-nil (elementBytes e)
-
-module _ (es : List Element) (i : ℕ) (h : i < length es) where
-  pub bytes-more : elementsBytes (take (i + 1) es) ≡ elementsBytes (take i es) ++ elementBytes (elementAt es i)
-  unfolding elementAt
-  bytes-more = rw (add-one, take-suc es i (record { bytes = []; index = none }) h, elements-append, one-element)
-
-  -- those of one element more are within those of all
-  pub bytes-within : length (elementsBytes (take i es)) + length (elementBytes (elementAt es i)) ≤ length (elementsBytes es)
-  bytes-within =
-      let f = take (i + 1) es in
-      let b = drop (i + 1) es in
-      omega (
-        arith,
-        ap (λ (l : List Element). length (elementsBytes l)) (take-append-drop (i + 1) es),
-        ap length (elements-append f b),
-        length-append (elementsBytes f) (elementsBytes b),
-        ap length bytes-more,
-        length-append (elementsBytes (take i es)) (elementBytes (elementAt es i)),
-      )
-
--- ---- bytes behind those that are written
-
--- a copy behind w
-pub put : (w y was : List ℕ) (used : ℕ) (out out′ : List ℕ) → used ≡ length w → out ≡ over w was
-    → out′ ≡ take used out ++ (y ++ drop (used + length y) out) → out′ ≡ over (w ++ y) was
-put w y was used out out′ U E C = C ∙ rw (E, U) (over-append w y was)
-
--- what stands over a front of itself
-over-over : (w y was : List ℕ) → over (w ++ y) (over w was) ≡ over (w ++ y) was
-over-over w y was =
-    ap (λ (l : List ℕ). (w ++ y) ++ l)
-    (rw (length-append w y) (drop-append-add w (drop (length w) was) (length y) ∙ drop-drop (length y) (length w) was))
-
--- ---- one element of an accepted list, as the code reads it
-
-module _ (lent : Lent) (A : listCheck lent ≡ 0) (i : ℕ) (h : i < length (lent .ends)) where
-  open Lent lent using (bytes as d, ends as n, marks as m, indexes as x)
-
-  abbrev all : List Element
-  all = elements lent
-
-  in-all : i < length all
-  in-all = omega (arith, length-elements lent A)
-
-  module _ (own : List ℕ) (O : own ≡ dataAt d n i) where
-    own-there : elementAt all i .bytes ≡ own
-    own-there = data-there lent A i h ∙ sym O
-
-    pub own-small : length own ≤ 4096
-    own-small = rw O (data-short lent A i h)
-
-    module _ (mark : ℕ) (K : mark ≡ markOf (indexAt m x i)) where
-      pub size-there : length (elementBytes (elementAt all i)) ≡ 5 + 8 * mark + length own
-      size-there = length-element (elementAt all i) ∙ rw (index-there lent A i h, own-there, K)
-
-      pub size-more : (size : ℕ) → size ≡ length (elementsBytes (take i all))
-          → size + (5 + 8 * mark + length own) ≡ length (elementsBytes (take (i + 1) all))
-      size-more size S =
-          omega (
-            arith,
-            ap length (bytes-more all i in-all),
-            length-append (elementsBytes (take i all)) (elementBytes (elementAt all i)),
-            size-there,
-          )
-
-      bytes-there : (number : ℕ) → number ≡ numberOf (indexAt m x i)
-          → elementBytes (elementAt all i) ≡ headBytes (indexOf mark number) (length own) ++ own
-      unfolding elementBytes
-      bytes-there number N = rw (index-there lent A i h, own-there, K, N, index-again (indexAt m x i))
-
-      -- head and data behind the elements before, which stand behind w
-      module _ (number : ℕ) (N : number ≡ numberOf (indexAt m x i)) (head : List ℕ)
-          (H : head ≡ headBytes (indexOf mark number) (length own))
-          (len : ℕ) (E : length head ≡ len) (w : List ℕ) (used : ℕ) (U : used ≡ length (w ++ elementsBytes (take i all))) where
-        abbrev before : List ℕ
-        before = w ++ elementsBytes (take i all)
-
-        behind : (before ++ head) ++ own ≡ w ++ elementsBytes (take (i + 1) all)
-        behind = rw
-            (append-assoc before head own, H, ← bytes-there number N, bytes-more all i in-all, append-assoc w (elementsBytes (take i all)))
-
-        with-head : used + len ≡ length (before ++ head)
-        with-head = omega (arith, length-append before head)
-
-        pub used-more : used + len + length own ≡ length (w ++ elementsBytes (take (i + 1) all))
-        used-more = omega (arith, with-head, length-append (before ++ head) own, ap length behind)
-
-        pub used-within : used + len + length own ≤ length w + length (elementsBytes all)
-        used-within =
-            omega (
-              arith,
-              used-more,
-              ap length (bytes-more all i in-all),
-              length-append (elementsBytes (take i all)) (elementBytes (elementAt all i)),
-              length-append w (elementsBytes (take (i + 1) all)),
-              bytes-within all i in-all,
-            )
-
-        pub element-put : (was out out₁ out₂ : List ℕ) → out ≡ over before was
-            → out₁ ≡ take used out ++ (head ++ drop (used + length head) out)
-            → out₂ ≡ take (used + len) out₁ ++ (own ++ drop (used + len + length own) out₁)
-            → out₂ ≡ over (w ++ elementsBytes (take (i + 1) all)) was
-        element-put was out out₁ out₂ B C₁ C₂ =
-            put (before ++ head) own was (used + len) out₁ out₂ with-head (put before head was used out out₁ U B C₁) C₂
-            ∙ ap (λ (l : List ℕ). over l was) behind
+use Rattle.centralized_telescope.proofs.ElementWriting.{put}
 
 -- ---- what stands before the elements, in an array
 
@@ -211,6 +61,12 @@ module _ (R S n : ℕ) (r s : List ℕ) (E : r ≡ bytesOf 8 R) (F : s ≡ bytes
 
 -- ---- the whole content over a buffer
 
+-- what stands over a front of itself
+over-over : (w y was : List ℕ) → over (w ++ y) (over w was) ≡ over (w ++ y) was
+over-over w y was =
+    ap (λ (l : List ℕ). (w ++ y) ++ l)
+    (rw (length-append w y) (drop-append-add w (drop (length w) was) (length y) ∙ drop-drop (length y) (length w) was))
+
 abbrev pub headOf : ℕ → ℕ → ℕ → List ℕ
 headOf R S n = bytesOf 8 R ++ (bytesOf 8 S ++ bytesOf 4 n)
 
@@ -225,7 +81,7 @@ length-headOf R S n =
       length-bytesOf 4 n,
     )
 
-module _ (k R S n : ℕ) (es : List Element) (K : k ≡ blockCount (24 + length (elementsBytes es))) (N : length es ≡ n) where
+module _ (k R S n : ℕ) (es : List Element) (K : k ≡ blockCount (ticketHeadBytes + length (elementsBytes es))) (N : length es ≡ n) where
   content-is : content R S es ≡ (bytesOf 4 k ++ headOf R S n) ++ elementsBytes es
   unfolding content
   content-is = rw (← K, N) (simp append-assoc)
@@ -233,10 +89,19 @@ module _ (k R S n : ℕ) (es : List Element) (K : k ≡ blockCount (24 + length 
   -- the number of blocks, the head behind it, then the elements
   pub content-put : (was stated head out out′ : List ℕ) → stated ≡ bytesOf 4 k → head ≡ headOf R S n
       → out ≡ take 4 (stated ++ drop 4 was) ++ (head ++ drop (4 + length head) (stated ++ drop 4 was))
-      → out′ ≡ over (take 24 out ++ elementsBytes es) out → out′ ≡ over (content R S es) was
+      → out′ ≡ over (take ticketHeadBytes out ++ elementsBytes es) out → out′ ≡ over (content R S es) was
   content-put was stated head out out′ B H C E =
       let four : length stated ≡ 4 = ap length B ∙ length-bytesOf 4 k in
       let first : stated ++ drop 4 was ≡ over stated was = rw four in
       let both-put : out ≡ over (stated ++ head) was = put stated head was 4 (stated ++ drop 4 was) out (sym four) first C in
-      let l : length (stated ++ head) ≡ 24 = omega (arith, length-append stated head, four, ap length H, length-headOf R S n) in
-      E ∙ rw (both-put, take-over 24 (stated ++ head) was l, over-over (stated ++ head) (elementsBytes es) was, B, H, ← content-is)
+      let l : length (stated ++ head) ≡ ticketHeadBytes =
+      omega (arith, length-append stated head, four, ap length H, length-headOf R S n) in
+      E
+      ∙ rw (
+        both-put,
+        take-over ticketHeadBytes (stated ++ head) was l,
+        over-over (stated ++ head) (elementsBytes es) was,
+        B,
+        H,
+        ← content-is,
+      )

@@ -8,29 +8,32 @@ use Prim.Native.Nat.{ℕ, zero, suc, _-_, _*_, _/_, _^_, _≤_, _<_}
 use native.Mathlib.Omega.{arith}
 use borrow.Author.Tests.{eq-eqb, ltb-false, le-ltb}
 use lib.Dec.{ltb}
-use lib.ListN.{length, take, drop, getD, length-map, length-take}
-use Rattle.sampling.specs.BigEndian.{bigEndian}
+use lib.ListN.{length, take, drop, getD, length-take}
+use Rattle.sampling.specs.core.BigEndian.{bigEndian}
 use Rattle.centralized_telescope.specs.laws.TestLaws.{not-both, refuted, confirmed, neither, lt-or-le}
 use Rattle.centralized_telescope.specs.laws.ListsLaws.{take-over}
 use Rattle.centralized_telescope.specs.laws.ElementsLaws.{accepted, length-elements, few-elements}
-use Rattle.centralized_telescope.specs.laws.ProofListLaws.{length-ends, accepted-again, elements-again}
+use Rattle.centralized_telescope.specs.laws.ProofListLaws.{accepted-again, elements-again, front-over}
 use Rattle.centralized_telescope.specs.laws.BytesLaws.{Bytes, each-bytes, front-number}
 use Rattle.centralized_telescope.specs.laws.BlocksLaws.{length-blocks, undamaged, blocks-undamaged}
 use Rattle.centralized_telescope.specs.laws.TicketsReadLaws.{none-over, none-long-short, number-small, ticket-reads, is-ticket}
 use Rattle.centralized_telescope.specs.laws.TicketsReadLaws.{ticket-said, ticket-is, ticket-length, stated-first, ticket-stated}
 use Rattle.centralized_telescope.specs.laws.TicketsReadLaws.{ticket-empty, ticket-miscounted}
 use Rattle.centralized_telescope.specs.declared.params.Params.{Params}
-use Rattle.centralized_telescope.specs.Lists.{Each, firstNumber}
-use Rattle.centralized_telescope.specs.Elements.{Element, markOf, numberOf, elementsFrom, elements, dataLong, listCheck, Lent, lentOf}
-use Rattle.centralized_telescope.specs.Verifier.{verdict}
-use Rattle.centralized_telescope.specs.ProofList.{joined, endsFrom, marksOf, indexesOf, buffersShort}
-use Rattle.centralized_telescope.specs.Blocks.{blockCount, blocks, bodiesOf, damaged}
-use Rattle.centralized_telescope.specs.Tickets.{content, ticket, ElementFits, ProofFits, IsTicket, blocksIn, retryIn, searchIn}
-use Rattle.centralized_telescope.specs.Tickets.{proofIn, isTicket, TicketWritten, ticketWriteRefusal, ticketWritten, TicketRead}
-use Rattle.centralized_telescope.specs.Tickets.{readOut, ticketReadRefusal, ticketRead}
-use Rattle.centralized_telescope.specs.TicketClaims.{blocksOf, readList, HasRoom, carried, CanCarry, ReadBack, readsBack, WrittenBack}
-use Rattle.centralized_telescope.specs.TicketClaims.{writtenAgain, writesBack, judgedAgain, judgedAlike, TicketOrNot, OneProof}
-use Rattle.centralized_telescope.specs.TicketClaims.{ticketsExactly, blocksCounted}
+use Rattle.centralized_telescope.specs.core.Lists.{Each}
+use Rattle.sampling.specs.core.FirstNumber.{firstNumber}
+use Rattle.centralized_telescope.specs.core.Elements.{Element, elementsFrom, elements, dataLong, listCheck, Lent, lentOf}
+use Rattle.centralized_telescope.specs.core.Elements.{maxDataBytes}
+use Rattle.centralized_telescope.specs.later.Words.{markOf, numberOf}
+use Rattle.centralized_telescope.specs.core.Verifier.{verdict}
+use Rattle.centralized_telescope.specs.later.ProofList.{joinedData, marksOf, indexesOf, buffersShort, listOf}
+use Rattle.centralized_telescope.specs.later.Blocks.{blockCount, blocks, bodiesOf, damaged, blockBytes}
+use Rattle.centralized_telescope.specs.later.Tickets.{content, ticket, ElementFits, ProofFits, IsTicket, blocksIn, retryIn, searchIn}
+use Rattle.centralized_telescope.specs.later.Tickets.{proofIn, isTicket, TicketWritten, ticketWriteRefusal, ticketWritten, TicketRead}
+use Rattle.centralized_telescope.specs.later.Tickets.{readOut, ticketReadRefusal, ticketRead}
+use Rattle.centralized_telescope.specs.later.TicketClaims.{blocksOf, readList, HasRoom, carried, CanCarry, ReadBack, readsBack}
+use Rattle.centralized_telescope.specs.later.TicketClaims.{WrittenBack, writtenAgain, writesBack, judgedAgain, judgedAlike}
+use Rattle.centralized_telescope.specs.later.TicketClaims.{TicketOrNot, OneProof, ticketsExactly, blocksCounted}
 use Rattle.centralized_telescope.proofs.TicketAnswers.{no-ticket}
 
 -- ---- the elements of an accepted list whose indexes are of 64 bits
@@ -42,8 +45,8 @@ fit-from from d [] m x X l = tt
 fit-from from d (k ∷ n) [] x X l = tt
 fit-from from d (k ∷ n) (j ∷ m) [] X l = tt
 fit-from from d (k ∷ n) (j ∷ m) (v ∷ x) X l =
-    let h = neither (ltb 4096 (k - from)) l in (
-      (omega (arith, length-take (k - from) (drop from d), ltb-false 4096 (k - from) (h .0)), number-small j v (2 ^ 64) (X .0)),
+    let h = neither (ltb maxDataBytes (k - from)) l in (
+      (omega (arith, length-take (k - from) (drop from d), ltb-false maxDataBytes (k - from) (h .0)), number-small j v (2 ^ 64) (X .0)),
       fit-from k d n m x (X .1) (h .1),
     )
 
@@ -58,8 +61,8 @@ module _ (R S : ℕ) (lent : Lent) (out : List ℕ) where
   unfolding ticketWritten ticketWriteRefusal firstNumber ticket
   is-written t e A room =
       let c : List ℕ = content R S (elements lent) in
-      let l : length t ≡ 512 * blockCount (length c) = rw e (length-blocks c) in
-      let k : ticketWriteRefusal R S lent out ≡ 0 = rw (A, le-ltb (length out) (512 * blockCount (length c)) (omega arith)) in
+      let l : length t ≡ blockBytes * blockCount (length c) = rw e (length-blocks c) in
+      let k : ticketWriteRefusal R S lent out ≡ 0 = rw (A, le-ltb (length out) (blockBytes * blockCount (length c)) (omega arith)) in
       rw (eq-eqb (ticketWriteRefusal R S lent out) 0 k) record { number = refl; count = omega arith; blocks = rw e }
 
   blocks-written : listCheck lent ≡ 0 → length (ticket R S (elements lent)) ≤ length out → blocksOf w ≡ ticket R S (elements lent)
@@ -67,31 +70,22 @@ module _ (R S : ℕ) (lent : Lent) (out : List ℕ) where
   blocks-written A room =
       let t : List ℕ = ticket R S (elements lent) in
       let W = is-written t refl A room in
-      rw (W .count, W .blocks) (take-over (512 * (length t / 512)) t out (omega (arith, length-blocks (content R S (elements lent)))))
+      rw (W .count, W .blocks)
+      (take-over (blockBytes * (length t / blockBytes)) t out (omega (arith, length-blocks (content R S (elements lent)))))
 
 -- ---- what the reader read
 
 module _ (R S : ℕ) (es : List Element) (buffers : Lent) where
-  open Lent buffers using (bytes as d, ends as n, marks as m, indexes as x)
-
-  parts : readList (readOut R S es buffers) ≡ lentOf (joined es) (endsFrom 0 es) (marksOf es) (indexesOf es)
+  parts : readList (readOut R S es buffers) ≡ listOf es
   unfolding readOut
-  parts =
-      rw (
-        take-over (length (joined es)) (joined es) d refl,
-        take-over (length es) (endsFrom 0 es) n (length-ends 0 es),
-        take-over (length es) (marksOf es) m (length-map es (λ (e : Element). markOf (e .index))),
-        take-over (length es) (indexesOf es) x (length-map es (λ (e : Element). numberOf (e .index))),
-      )
+  parts = front-over es buffers (length es) refl
 
   -- what was read, written out and judged
-  again : (out : List ℕ)
-      → writtenAgain (readOut R S es buffers) out ≡ ticketWritten R S (lentOf (joined es) (endsFrom 0 es) (marksOf es) (indexesOf es)) out
+  again : (out : List ℕ) → writtenAgain (readOut R S es buffers) out ≡ ticketWritten R S (listOf es) out
   unfolding readOut
   again out = ap (λ (lent : Lent). ticketWritten R S lent out) parts
 
-  verdict-on : (p : Params)
-      → judgedAgain p (readOut R S es buffers) ≡ verdict p R S (lentOf (joined es) (endsFrom 0 es) (marksOf es) (indexesOf es))
+  verdict-on : (p : Params) → judgedAgain p (readOut R S es buffers) ≡ verdict p R S (listOf es)
   unfolding readOut
   verdict-on p = ap (verdict p R S) parts
 
@@ -109,8 +103,6 @@ abbrev numberBy : Bool → Bool → Bool → ℕ
 numberBy p q s = cond p 40 (cond q (cond s 42 0) 41)
 
 module _ (t : List ℕ) (buffers : Lent) where
-  open Lent buffers using (bytes as d, ends as n, marks as m, indexes as x)
-
   abbrev r : TicketRead
   r = ticketRead t buffers
 
@@ -118,7 +110,7 @@ module _ (t : List ℕ) (buffers : Lent) where
   b = bodiesOf t
 
   abbrev short : Bool
-  short = buffersShort (length (proofIn b)) (length (joined (proofIn b))) (length d) (length n) (length m) (length x)
+  short = buffersShort (length (proofIn b)) (length (joinedData (proofIn b))) buffers
 
   damage-met : damaged t ≡ true → r .number ≡ 40
   unfolding ticketRead ticketReadRefusal firstNumber
@@ -216,7 +208,7 @@ module _ (R S : ℕ) (lent : Lent) (out : List ℕ) (buffers : Lent) (C : CanCar
       (read-all (ticket R S es) buffers ticket-whole (is-ticket R S es reads) (rw (f .proof) (C .room))
       ∙ rw (f .retry, f .search, f .proof))
 
-  listed-again : listCheck (lentOf (joined es) (endsFrom 0 es) (marksOf es) (indexesOf es)) ≡ 0
+  listed-again : listCheck (listOf es) ≡ 0
   listed-again = accepted-again es (reads .few) (none-long-short es (none-over es (reads .each)))
 
   read-back : ReadBack R S es (carried R S lent out buffers)
@@ -230,7 +222,7 @@ module _ (R S : ℕ) (lent : Lent) (out : List ℕ) (buffers : Lent) (C : CanCar
         count = refl;
         same = ap elements (parts R S es buffers) ∙ elements-again es;
         accepted = ap listCheck (parts R S es buffers) ∙ listed-again;
-        data-alone = take-over (length (joined es)) (joined es) d′ refl;
+        data-alone = take-over (length (joinedData es)) (joinedData es) d′ refl;
         index-zero = zero-index es (drop (length (marksOf es)) m′) (drop (length (indexesOf es)) x′);
       }
 
@@ -265,7 +257,7 @@ module _ (t : List ℕ) (buffers : Lent) where
     write-back out l =
         let s = ticket-said t (accepts t buffers N .is) in
         rw (read, again R′ S′ es′ buffers out)
-        (is-written R′ S′ (lentOf (joined es′) (endsFrom 0 es′) (marksOf es′) (indexesOf es′)) out t
+        (is-written R′ S′ (listOf es′) out t
         (s .same ∙ ap (ticket R′ S′) (sym (elements-again es′)))
         (accepted-again es′ (s .few) (none-long-short es′ (s .none-long))) l)
 
@@ -334,18 +326,18 @@ tickets-exactly = (ticket-or-not, one-proof)
 
 -- ---- the number of blocks
 
-miscounted : (t : List ℕ) → damaged t ≡ false → (bigEndian 4 t ≡ length t / 512 → ⊥) → isTicket t ≡ false
+miscounted : (t : List ℕ) → damaged t ≡ false → (bigEndian 4 t ≡ length t / blockBytes → ⊥) → isTicket t ≡ false
 miscounted t D f =
     ⊎-elim
     (λ s. ticket-empty t (omega (arith, undamaged t D .size)))
     (λ h. ticket-miscounted t (λ e. f (sym (stated-first t h) ∙ e)))
-    (lt-or-le (length t) 512)
+    (lt-or-le (length t) blockBytes)
 
 module _ (t : List ℕ) (k : IsTicket t) where
-  first-block : 512 ≤ length t
+  first-block : blockBytes ≤ length t
   first-block = rw (k .4) (ticket-length (k .0) (k .1) (k .2))
 
-  counted : length t ≡ 512 * bigEndian 4 t
+  counted : length t ≡ blockBytes * bigEndian 4 t
   counted =
       omega (
         arith,
@@ -354,7 +346,7 @@ module _ (t : List ℕ) (k : IsTicket t) where
         ticket-stated t (said t (lentOf [] [] [] []) k),
       )
 
-  stated-by-front : (n : ℕ) → 512 ≤ n → blocksIn (bodiesOf (take n t)) ≡ bigEndian 4 t
+  stated-by-front : (n : ℕ) → blockBytes ≤ n → blocksIn (bodiesOf (take n t)) ≡ bigEndian 4 t
   stated-by-front n h =
       stated-first (take n t) (omega (arith, length-take n t, first-block)) ∙ front-number 4 n t (omega arith) (omega (arith, first-block))
 

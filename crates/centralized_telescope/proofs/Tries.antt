@@ -8,10 +8,10 @@ use native.Mathlib.Nat.{eq-or-lt-of-le, min-le-right}
 use native.Mathlib.Numerals.{add-one}
 use native.Mathlib.Omega.{arith}
 use Rattle.centralized_telescope.specs.declared.params.Params.{Params}
-use Rattle.centralized_telescope.specs.Elements.{Element}
-use Rattle.centralized_telescope.specs.Chains.{tryOf, Chain}
-use Rattle.centralized_telescope.specs.Search.{tryCount, tryFinds, Searched, unlessFound, triesFrom, searched}
-use Rattle.centralized_telescope.specs.Demand3.{sumUpTo}
+use Rattle.centralized_telescope.specs.core.Elements.{Element}
+use Rattle.centralized_telescope.specs.core.Chains.{tryOf, Chain}
+use Rattle.centralized_telescope.specs.core.Search.{tryCount, tryFinds, Searched, unlessFound, triesFrom, searched}
+use Rattle.centralized_telescope.specs.core.Demand3.{sumUpTo}
 
 -- ---- sums
 
@@ -95,8 +95,9 @@ module _ (p : Params) (es : List Element) where
   unfolding triesFrom
   counted zero R sum e = e
   counted (suc w) R sum e =
-      let f : sum + count (R + 1) ≡ sumUpTo (R + 1) count = sum-more R sum e in
-      counted-more w R (sum + count (R + 1)) (triesFrom p es w (R + 1) (sum + count (R + 1))) f (counted w (R + 1) (sum + count (R + 1)) f) (finds (R + 1))
+      let next : ℕ = sum + count (R + 1) in
+      let f : next ≡ sumUpTo (R + 1) count = sum-more R sum e in
+      counted-more w R next (triesFrom p es w (R + 1) next) f (counted w (R + 1) next f) (finds (R + 1))
 
   -- ---- the search as a whole
 

@@ -10,14 +10,15 @@ use native.Mathlib.Omega.{arith}
 use borrow.Author.Tests.{eq-eqb, eqb-true, le-leb, leb-true}
 use lib.Dec.{eqb, leb}
 use lib.ListN.{length}
-use Rattle.centralized_telescope.specs.Lists.{Ascending, firstOf}
-use Rattle.centralized_telescope.specs.laws.ListsLaws.{first-none, first-some, prefixTo, length-prefix, prefix-among, prefix-pairwise, prefix-before, before-prefix, no-longer}
-use Rattle.centralized_telescope.specs.Rounds.{saysYes}
-use Rattle.centralized_telescope.specs.Chains.{Try, Chain, Passes, Before}
+use Rattle.centralized_telescope.specs.core.Lists.{Ascending, firstOf}
+use Rattle.centralized_telescope.specs.laws.ListsLaws.{first-none, first-some, prefixTo, length-prefix, prefix-among, prefix-pairwise}
+use Rattle.centralized_telescope.specs.laws.ListsLaws.{prefix-before, before-prefix, no-longer}
+use Rattle.centralized_telescope.specs.core.Rounds.{saysYes}
+use Rattle.centralized_telescope.specs.core.Chains.{Try, Chain, Passes, Before}
 use Rattle.centralized_telescope.specs.laws.OrderLaws.{before-transitive, before-asymmetric}
-use Rattle.centralized_telescope.specs.Search.{existing, passing, K, tryFinds}
+use Rattle.centralized_telescope.specs.core.Search.{existing, passing, K, tryFinds}
 use Rattle.centralized_telescope.specs.laws.SearchLaws.{listed-exists, exists-listed, in-order}
-use Rattle.centralized_telescope.specs.Demand3.{Number, UpTo, FirstPassing, WithinBound, HasProof, UpToPassing}
+use Rattle.centralized_telescope.specs.core.Demand3.{Number, UpTo, FirstPassing, WithinBound, HasProof, UpToPassing}
 
 up-to-transitive : (a b c : Chain) → UpTo a b → UpTo b c → UpTo a c
 up-to-transitive a b c (inl e) q = subst (λ (x : Chain). UpTo x c) (sym e) q
@@ -31,7 +32,8 @@ module _ (T : Try) where
   unfolding passing
   is-passing c p = rw (eq-eqb (length (c .places)) (T .settings .«proof_size») (p .exactly)) (p .yes)
 
-  passing-is : (c : Chain) → passing T c ≡ true → (length (c .places) ≡ T .settings .«proof_size») × (saysYes (T .settings .x) (c .last) ≡ true)
+  passing-is : (c : Chain) → passing T c ≡ true
+      → (length (c .places) ≡ T .settings .«proof_size») × (saysYes (T .settings .x) (c .last) ≡ true)
   unfolding passing
   passing-is c e = go (eqb (length (c .places)) (T .settings .«proof_size»)) refl e
     where
@@ -106,7 +108,9 @@ module _ (T : Try) where
   K-least : (c : Chain) (w : WithinBound T c) → K T ≤ w .nth
   K-least c w =
       let n = w .nth-is in
-      let l = no-longer Before before-asymmetric (n .0) upTo sorted-up-to (n .1) (λ d m. let u = listed-up-to d m in n .2 d .1 (u .0, u .1 c (w .passes))) in
+      let l =
+      no-longer Before before-asymmetric (n .0) upTo sorted-up-to (n .1)
+      (λ d m. let u = listed-up-to d m in n .2 d .1 (u .0, u .1 c (w .passes))) in
       omega (arith, l, length-up-to, n .3)
 
   pub finds-first : (c : Chain) → tryFinds T ≡ some c → FirstPassing T c × WithinBound T c
@@ -121,7 +125,8 @@ module _ (T : Try) where
   pub finds-none : tryFinds T ≡ none → HasProof T → ⊥
   unfolding tryFinds
   finds-none e h =
-      none-passing (rw (le-leb (K T) (T .settings .«dfs_bound») (omega (arith, K-least (h .0) (h .1), h .1 .within))) at e) (h .0) (h .1 .passes)
+      let within : K T ≤ T .settings .«dfs_bound» = omega (arith, K-least (h .0) (h .1), h .1 .within) in
+      none-passing (rw (le-leb (K T) (T .settings .«dfs_bound») within) at e) (h .0) (h .1 .passes)
 
   -- where nothing is found and K is below the bound, nothing passes
   pub finds-none-below : tryFinds T ≡ none → K T < T .settings .«dfs_bound» → (c : Chain) → Passes T c → ⊥

@@ -1,23 +1,24 @@
 -- Demand 3, of the verifier: its verdict by cases. Each field of `OfVerifier` is a declaration of its name.
 use mathlib.Core.Path.{_≡_, refl, sym, _∙_}
-use mathlib.Core.Bool.{Bool, true, false, false≢true, cond, _||_}
+use mathlib.Core.Bool.{Bool, true, false, false≢true, not, _||_}
 use mathlib.Core.Logic.{_⊎_, _↔_, inl, inr}
-use mathlib.Core.List.{List}
+use mathlib.Core.List.{List, [], _∷_}
 use Prim.Native.Nat.{ℕ, _≤_, _<_}
 use native.Mathlib.Nat.{eq-or-lt-of-le}
 use native.Mathlib.Omega.{arith}
 use borrow.Author.Tests.{eqb-true, eqb-false, leb-true, leb-false}
 use lib.Dec.{eqb, leb}
 use lib.ListN.{length}
+use Rattle.sampling.specs.core.FirstNumber.{line, firstNumber}
 use Rattle.centralized_telescope.specs.declared.params.Params.{Params}
 use Rattle.centralized_telescope.specs.laws.TestLaws.{neither}
-use Rattle.centralized_telescope.specs.Params.{checked}
-use Rattle.centralized_telescope.specs.Elements.{Element, elements, listCheck, Lent}
+use Rattle.centralized_telescope.specs.core.Params.{checked}
+use Rattle.centralized_telescope.specs.core.Elements.{Element, elements, listCheck, Lent}
 use Rattle.centralized_telescope.specs.laws.ElementsLaws.{check-range}
-use Rattle.centralized_telescope.specs.Chains.{ElementsPass}
-use Rattle.centralized_telescope.specs.Verifier.{lastHash, yesOn, countersOut, judged, verdict}
+use Rattle.centralized_telescope.specs.core.Chains.{ElementsPass}
+use Rattle.centralized_telescope.specs.core.Verifier.{lastHash, yesOn, countersOut, judged, verdict}
 use Rattle.centralized_telescope.specs.laws.VerifierLaws.{yes-exists, exists-yes}
-use Rattle.centralized_telescope.specs.Demand3.{Accepted, OfVerifier}
+use Rattle.centralized_telescope.specs.core.Demand3.{Accepted, OfVerifier}
 use Rattle.centralized_telescope.proofs.VerdictAnswers.{list-met, left-to-judge}
 
 module _ (p : Params) (R S : ℕ) (lent : Lent) where
@@ -121,11 +122,11 @@ module _ (p : Params) (R S : ℕ) (lent : Lent) where
   in-is e = let w = neither (leb (p .«search_width») S) e in (leb-false _ _ (w .0), leb-false _ _ (w .1))
 
   judged-so : Judged (judged p R S es)
-  unfolding judged
+  unfolding judged firstNumber
   judged-so = go (eqb (length es) (p .«proof_size»)) refl (countersOut p R S) refl yes refl
     where
       go : (a : Bool) → eqb (length es) (p .«proof_size») ≡ a → (b : Bool) → countersOut p R S ≡ b → (c : Bool) → yes ≡ c
-          → Judged (cond a (cond b 21 (cond c 0 22)) 20)
+          → Judged (firstNumber (line 20 (not a) ∷ line 21 b ∷ line 22 (not c) ∷ []))
       go false l b o c y = by-length refl (eqb-false _ _ l)
       go true l true o c y = by-counters refl (eqb-true _ _ l) (out-is o)
       go true l false o true y = by-none refl (in-is o) (yes-passes (eqb-true _ _ l) y)

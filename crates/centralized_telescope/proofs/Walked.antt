@@ -9,15 +9,15 @@ use borrow.Author.Tests.{le-ltb, lt-ltb, eq-eqb, ne-eqb}
 use lib.Dec.{ltb, eqb}
 use lib.ListN.{length}
 use Rattle.centralized_telescope.specs.declared.params.Params.{Params}
-use Rattle.centralized_telescope.specs.declared.proof.Outcome.{Outcome}
-use Rattle.centralized_telescope.specs.declared.proof.Outcome.the-variants as outcome
+use Rattle.centralized_telescope.specs.declared.search.Outcome.{Outcome}
+use Rattle.centralized_telescope.specs.declared.search.Outcome.the-variants as outcome
 use Rattle.centralized_telescope.specs.laws.TestLaws.{either-way}
-use Rattle.centralized_telescope.specs.Rounds.{saysYes}
-use Rattle.centralized_telescope.specs.Chains.{Try, Chain}
-use Rattle.centralized_telescope.specs.Search.{placesIn, nextAt, idOf, grown, along, chains, passing}
+use Rattle.centralized_telescope.specs.core.Rounds.{saysYes}
+use Rattle.centralized_telescope.specs.core.Chains.{Try, Chain}
+use Rattle.centralized_telescope.specs.core.Search.{placesIn, nextAt, idOf, grown, along, chains, passing}
 use Rattle.centralized_telescope.specs.inner.Walk.{Ended, found, missing, walk, counted}
 use Rattle.centralized_telescope.specs.laws.WalkLaws.{walk-full, andThen, walk-append, walk-bound, walk-one}
-use Rattle.centralized_telescope.specs.inner.Visit.{visited, walked, outcomeOf, written, writtenFrom}
+use Rattle.centralized_telescope.specs.inner.Visit.{visited, walked, outcomeOf, written, writtenFrom, Answers, VisitEnds, WalkEnds}
 
 module _ (T : Try) (S : ℕ) where
   abbrev bound : ℕ
@@ -52,11 +52,12 @@ module _ (T : Try) (S : ℕ) where
       unfolding walked along grown
       walked-nothing q = rw q
 
-      walked-at : (i : ℕ) (r : Ended Chain) → idOf T g ≡ some i → below i ≡ r → W (e ∷ es) count ≡ andThen (passing T) bound r (λ (t : ℕ). W es t)
+      walked-at : (i : ℕ) (r : Ended Chain) → idOf T g ≡ some i → below i ≡ r
+          → W (e ∷ es) count ≡ andThen (passing T) bound r (λ (t : ℕ). W es t)
       unfolding walked visited along grown
       walked-at i r q w =
-          rw (q, ← w)
-          (walk-append (passing T) bound count (chains T S (size - (depth + 1)) g i (places ++ (e ∷ []))) (along T (chains T S (size - (depth + 1))) h places es))
+          let deeper : List ℕ → ℕ → List ℕ → List Chain = chains T S (size - (depth + 1)) in
+          rw (q, ← w) (walk-append (passing T) bound count (deeper g i (places ++ (e ∷ []))) (along T deeper h places es))
 
       pub walked-missing : (i t : ℕ) → idOf T g ≡ some i → below i ≡ missing t → W (e ∷ es) count ≡ W es t
       unfolding andThen
@@ -72,33 +73,39 @@ module _ (T : Try) (S : ℕ) where
     abbrev ended : Ended Chain
     ended = visited T S h i places depth count
 
+    -- the chain that ends here
+    abbrev here : Chain
+    here = record { search = S; places = places; last = h }
+
     pub visited-bound : count ≤ bound → counted ended ≤ bound
     unfolding visited
     visited-bound l = walk-bound (passing T) bound count _ l
 
     -- at full length it finds its own chain or none
-    pub visited-own : (t : ℕ) (c : Chain) → depth ≡ size → ended ≡ found t c → c ≡ record { search = S; places = places; last = h }
+    pub visited-own : (t : ℕ) (c : Chain) → depth ≡ size → ended ≡ found t c → c ≡ here
     unfolding visited chains
     visited-own t c q e =
         let z : size - depth ≡ 0 = omega arith in
-        walk-one (passing T) bound count (record { search = S; places = places; last = h }) t c (rw z at e)
+        walk-one (passing T) bound count here t c (rw z at e)
 
     module _ (lp : length places ≡ depth) (lc : count < bound) where
-      pub visited-walk : depth < size → ended ≡ walked T S h places depth (placesIn T i) (count + 1)
+      -- below it, it walks the candidates, which are its bin's places
+      pub visited-walk : depth < size → (candidates : List ℕ) → candidates ≡ placesIn T i
+          → ended ≡ walked T S h places depth candidates (count + 1)
       unfolding visited walked chains walk passing
-      visited-walk l =
+      visited-walk l candidates are =
           let e : size - depth ≡ suc (size - (depth + 1)) = omega arith in
           let f : eqb (length places) size ≡ false = ne-eqb (length places) size (λ q. omega arith) in
-          rw (e, lt-ltb count bound lc, f)
+          rw (e, lt-ltb count bound lc, f, are)
 
       module _ (full : depth ≡ size) where
-        last-step : ended ≡ cond (saysYes (T .settings .x) h) (found (count + 1) (record { search = S; places = places; last = h })) (missing (count + 1))
+        last-step : ended ≡ cond (saysYes (T .settings .x) h) (found (count + 1) here) (missing (count + 1))
         unfolding visited chains walk passing
         last-step =
             let e : size - depth ≡ 0 = omega arith in
             rw (e, lt-ltb count bound lc, eq-eqb (length places) size (lp ∙ full))
 
-        pub visited-pass : saysYes (T .settings .x) h ≡ true → ended ≡ found (count + 1) (record { search = S; places = places; last = h })
+        pub visited-pass : saysYes (T .settings .x) h ≡ true → ended ≡ found (count + 1) here
         visited-pass y = last-step ∙ rw y
 
         pub visited-fail : saysYes (T .settings .x) h ≡ false → ended ≡ missing (count + 1)
@@ -110,15 +117,20 @@ pub missing-of : (r : Ended Chain) (t : ℕ) → outcome.Missing t ≡ outcomeOf
 missing-of (found u c) t e = let z : _≡_ {A = ℕ} 0 1 = cc in absurd (omega arith)
 missing-of (missing u) t e = cc
 
-pub found-of : (r : Ended Chain) (t : ℕ) → outcome.Found t ≡ outcomeOf r → (c : Chain) × (r ≡ found t c)
-found-of (found u c) t e = (c, cc)
+-- a find, with its chain
+pub record Finds (r : Ended Chain) (t : ℕ) : Type 0 where
+  pub chain : Chain
+  pub ends-with : r ≡ found t chain
+
+pub found-of : (r : Ended Chain) (t : ℕ) → outcome.Found t ≡ outcomeOf r → Finds r t
+found-of (found u c) t e = record { chain = c; ends-with = cc }
 found-of (missing u) t e = let z : _≡_ {A = ℕ} 0 1 = cc in absurd (omega arith)
 
 -- without a find, whatever an answer says of the walk's end, and the lent places as they were
-pub stopped : {A : Type 0} (answer : Ended Chain → A) (whole : Ended Chain) (t : ℕ) (now old : List ℕ) → whole ≡ missing t → now ≡ old
-    → (answer (missing t) ≡ answer whole) × (now ≡ written whole old)
+pub stopped : {A : Type 0} (answer : Ended Chain → A) {whole : Ended Chain} {t : ℕ} {now old : List ℕ} → whole ≡ missing t → now ≡ old
+    → Answers (answer (missing t)) (answer whole) now (written whole old)
 unfolding written
-stopped answer whole t now old e q = rw e (refl, q)
+stopped answer e q = rw e (record { answer-is = refl; places-are = q })
 
 -- ---- the lent places after a visit
 
@@ -137,15 +149,11 @@ module _ (p : Params) (depth : ℕ) (r : Ended Chain) (places : List ℕ) where
 
 -- ---- the answers of a visit
 
-abbrev pub Answers : Params → ℕ → Ended Chain → Outcome → List ℕ → List ℕ → Type 0
-Answers p depth r o now old = (o ≡ outcomeOf r) × (now ≡ writtenFrom p depth r old)
+module _ (p : Params) (depth : ℕ) {v w : Ended Chain} (e : v ≡ w) (old : List ℕ) where
+  -- that of the walk that it hands over to
+  pub by-walk : depth < p .«proof_size» → {o : Outcome} {now : List ℕ} → WalkEnds w o old now → VisitEnds p depth v o old now
+  by-walk l q = rw e (record { answer-is = q .answer-is; places-are = q .places-are ∙ sym (written-short p depth w old l) })
 
--- that of the walk that it hands over to
-pub by-walk : (p : Params) (depth : ℕ) (v w : Ended Chain) (o : Outcome) (now old : List ℕ) → depth < p .«proof_size» → v ≡ w
-    → (o ≡ outcomeOf w) × (now ≡ written w old)
-    → Answers p depth v o now old
-by-walk p depth v w o now old l e q = rw e (q .0, q .1 ∙ sym (written-short p depth w old l))
-
--- at full length nothing is written
-pub by-leaf : (p : Params) (depth : ℕ) (v w : Ended Chain) (old : List ℕ) → p .«proof_size» ≤ depth → v ≡ w → Answers p depth v (outcomeOf w) old old
-by-leaf p depth v w old l e = rw e (refl, sym (written-full p depth w old l))
+  -- at full length nothing is written
+  pub by-leaf : p .«proof_size» ≤ depth → VisitEnds p depth v (outcomeOf w) old old
+  by-leaf l = rw e (record { answer-is = refl; places-are = sym (written-full p depth w old l) })

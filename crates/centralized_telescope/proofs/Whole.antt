@@ -12,7 +12,7 @@ use lib.Ieee.Fits.{down-pos}
 use lib.Ieee.Back.{round-whole}
 use lib.Ieee.Exact.{HasValue}
 use Rattle.sampling.specs.laws.CommonLaws.{same-test}
-use Rattle.centralized_telescope.specs.Params.{floor, ceil}
+use Rattle.centralized_telescope.specs.later.SmallCase.{floor, ceil}
 use Rattle.centralized_telescope.specs.laws.SmallCaseLaws.{Inside, floor-most}
 
 -- ---- the floor: what the truncation asks, and what it answers
@@ -58,7 +58,8 @@ scaled : (a b k : ℕ) → 0 < k → ltb (a * k) (b * k) ≡ ltb a b
 scaled a b k h =
     sym (same-test a b (a * k) (b * k) (λ l. mul-lt-mul-of-pos-right l h) (λ l. mul-le-mul-right k l))
 
-less : (v : Float) (t : ℕ) (s : Bool) (m : ℕ) (e : ℤ) → HasValue v false t 1 → (s ≡ true → m ≡ 0) → lt v (fin s m e) ≡ ltb (t * down e) (m * up e)
+less : (v : Float) (t : ℕ) (s : Bool) (m : ℕ) (e : ℤ) → HasValue v false t 1 → (s ≡ true → m ≡ 0)
+    → lt v (fin s m e) ≡ ltb (t * down e) (m * up e)
 unfolding lt
 less nan t s m e h z = absurd h
 less (inf r) t s m e h z = absurd h
@@ -73,7 +74,8 @@ by-rest : (n d : ℕ) (b : Bool) → ltb (n / d * d) n ≡ b → cond b (n / d +
 by-rest n d true e = let l = ltb-true (n / d * d) n e in rw (ne-eqb (n % d) 0 (λ z. omega (arith, div-add-mod' n d)))
 by-rest n d false e = let l = ltb-false (n / d * d) n e in rw (eq-eqb (n % d) 0 (omega (arith, div-add-mod' n d)))
 
-pub ceiling : (x : Float) (b : Bool) (t : ℕ) → Inside (2 ^ 52) x → t ≡ floor x → lt (ofInt binary64 (pos t)) x ≡ b → cond b (t + 1) t ≡ ceil x
+pub ceiling : (x : Float) (b : Bool) (t : ℕ) → Inside (2 ^ 52) x → t ≡ floor x → lt (ofInt binary64 (pos t)) x ≡ b
+    → cond b (t + 1) t ≡ ceil x
 unfolding floor ceil
 ceiling nan b t i f l = absurd i
 ceiling (inf s) b t i f l = absurd i

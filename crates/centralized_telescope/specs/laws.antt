@@ -5,7 +5,9 @@ pub mod RefusalsLaws
 pub mod ParamsLaws
 pub mod SmallCaseLaws
 pub mod ElementsLaws
+pub mod SourceLaws
 pub mod DistinctLaws
+pub mod OrderingLaws
 pub mod SortingLaws
 pub mod RoundsLaws
 pub mod BinsLaws
@@ -16,6 +18,7 @@ pub mod WalkLaws
 pub mod OneBinLaws
 pub mod VerifierLaws
 pub mod ProofListLaws
+pub mod ElementBytesLaws
 pub mod BytesLaws
 pub mod BlocksLaws
 pub mod BlocksReadLaws

@@ -9,7 +9,8 @@ ghost use Rattle.centralized_telescope.specs.inner.Digits.{numberIn};
 // Multiplies by k, where there are digits enough for the product.
 pub fn times(digits: &mut [u32], k: u32)
     requires { ⌜ numberIn (now digits) * k < (2 ^ 32) ^ length (now digits) ⌝ }
-    ensures { λ _. ⌜ (length (now (digits .exit)) ≡ length (now (digits .entry))) × (numberIn (now (digits .exit)) ≡ numberIn (now (digits .entry)) * k) ⌝ }
+    ensures { λ _. ⌜ (length (now (digits .exit)) ≡ length (now (digits .entry)))
+        × (numberIn (now (digits .exit)) ≡ numberIn (now (digits .entry)) * k) ⌝ }
 {
     let mut carry = 0u64;
     let mut i = 0;
@@ -24,7 +25,8 @@ pub fn times(digits: &mut [u32], k: u32)
 // Doubles so many times, where there are digits enough for what comes out.
 pub fn double(digits: &mut [u32], times_doubled: u64)
     requires { ⌜ numberIn (now digits) * 2 ^ «times_doubled» < (2 ^ 32) ^ length (now digits) ⌝ }
-    ensures { λ _. ⌜ (length (now (digits .exit)) ≡ length (now (digits .entry))) × (numberIn (now (digits .exit)) ≡ numberIn (now (digits .entry)) * 2 ^ «times_doubled») ⌝ }
+    ensures { λ _. ⌜ (length (now (digits .exit)) ≡ length (now (digits .entry)))
+        × (numberIn (now (digits .exit)) ≡ numberIn (now (digits .entry)) * 2 ^ «times_doubled») ⌝ }
 {
     let mut i = 0;
     while i < times_doubled {

@@ -1,7 +1,7 @@
-// The refusals: one table for all calls. A call's answer holds a refusal as the call below gave it, so that a line is written here and in no
-// caller. How a search or a verification ends is no refusal, and stands with those calls.
+// The refusals: one table for all calls. A call's answer holds a refusal as the call below gave it, so that a line is written here and in
+// no caller. How a search or a verification ends is no refusal, and stands with those calls.
 ghost use mathlib.Core.Path.{_≡_};
-ghost use Rattle.centralized_telescope.specs.Refusals.{refusalNumber};
+ghost use Rattle.centralized_telescope.specs.core.Refusals.{refusalNumber};
 
 // Why a call does no work.
 pub enum Refusal {

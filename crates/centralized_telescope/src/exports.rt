@@ -3,10 +3,11 @@ ghost use mathlib.Core.Path.{_≡_};
 ghost use mathlib.Core.Bool.{_||_};
 ghost use Prim.Native.Nat.{_/_, _<_};
 ghost use lib.ListN.{length, getD};
-ghost use Rattle.centralized_telescope.specs.Elements.{elements, endWrong, dataLong, listCheck, listNumber, lentAtEntry};
-ghost use Rattle.centralized_telescope.specs.Verifier.{lastHash, yesOn, judged, verdictNumber};
+ghost use Rattle.centralized_telescope.specs.core.Elements.{elements, endWrong, dataLong, listCheck, listCheckBy, lentAtEntry};
+ghost use Rattle.centralized_telescope.specs.core.Verifier.{lastHash, yesOn, judged, verdictBy};
 ghost use Rattle.centralized_telescope.specs.inner.ListReading.{lentNow};
-ghost use Rattle.centralized_telescope.specs.Exports.{settingsOf, numbersOf, numbered, exportedVerdict};
+ghost use Rattle.centralized_telescope.specs.core.Params.{settingsOf};
+ghost use Rattle.centralized_telescope.specs.core.Exports.{numbersOf, numbered, exportedVerdict};
 use crate::errors::Refusal;
 use crate::numbers::number;
 use crate::numbers::wide;
@@ -86,7 +87,7 @@ fn find_in_ends(ends: &[u8], limit: usize) -> EndsFound
 
 // Whether a list with ends and indexes in bytes, of whole counts, is accepted.
 fn check_bytes(data: &[u8], ends: &[u8], marks: &[u8], indexes: &[u8]) -> ListCheck
-    ensures { λ r. ⌜ listNumber r ≡ listCheck (numbered (lentAtEntry «data» ends marks indexes)) ⌝ }
+    ensures { λ r. ⌜ listCheckBy r ≡ listCheck (numbered (lentAtEntry «data» ends marks indexes)) ⌝ }
 {
     let mark_over = some_mark_over(marks);
     let found = find_in_ends(ends, data.len());
@@ -144,7 +145,7 @@ fn judge_bytes(
     indexes: &[u8],
 ) -> Verdict
     requires { ⌜ listCheck (numbered (lentNow «data» ends marks indexes)) ≡ 0 ⌝ }
-    ensures { λ r. ⌜ verdictNumber r ≡ judged p (retry .0) (search .0) (elements (numbered (lentAtEntry «data» ends marks indexes))) ⌝ }
+    ensures { λ r. ⌜ verdictBy r ≡ judged p (retry .0) (search .0) (elements (numbered (lentAtEntry «data» ends marks indexes))) ⌝ }
 {
     let counts = judge_counts(p, retry, search, marks.len());
     if verdict_number(counts) != 0 {
@@ -163,7 +164,7 @@ fn verify_bytes(
     marks: &[u8],
     indexes: &[u8],
 ) -> Verdict
-    ensures { λ r. ⌜ verdictNumber r ≡ exportedVerdict p (retry .0) (search .0) (lentAtEntry «data» ends marks indexes) ⌝ }
+    ensures { λ r. ⌜ verdictBy r ≡ exportedVerdict p (retry .0) (search .0) (lentAtEntry «data» ends marks indexes) ⌝ }
 {
     match check_params(p) {
         Checked::Lawful => {}
@@ -207,6 +208,7 @@ pub extern "C" fn alba_verify(
     ensures { λ r. ⌜ r ≡ exportedVerdict (settingsOf «set_size» «proof_size» «max_retries» «search_width» «dfs_bound» «x_high» «x_low»)
         «retry_counter» «search_counter» (lentAtEntry «data» ends marks indexes) ⌝ }
 {
+    // not by `settings_of`: dist/telescope.c is made of this very code
     let p = Params {
         set_size,
         proof_size,

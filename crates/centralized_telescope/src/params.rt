@@ -6,8 +6,24 @@ use sampling::U128;
 ghost use mathlib.Core.Path.{_≡_};
 ghost use mathlib.Core.Bool.{false};
 ghost use Prim.Native.Nat.{_^_};
-ghost use Rattle.sampling.specs.Sample.{outside, xOf};
-ghost use Rattle.centralized_telescope.specs.Params.{notOneTo, proofSizeOut, limitBroken, checked, checkedNumber, completenessOut, floor, ceil, smallSettings, smallCase, smallCaseNumber};
+ghost use Rattle.sampling.specs.later.Threshold.{outside, xOf};
+ghost use Rattle.centralized_telescope.specs.core.Params.{settingsOf, notOneTo, limitBroken, checked, checkedBy};
+ghost use Rattle.centralized_telescope.specs.later.SmallCase.{proofSizeOut, completenessOut, floor, ceil, smallSettings, smallCase};
+ghost use Rattle.centralized_telescope.specs.later.SmallCase.{smallCaseBy};
+
+// The limits of the settings.
+pub const MAX_SET_SIZE: u64 = 32_768;
+
+pub const MAX_PROOF_SIZE: u64 = 1_024;
+
+pub const MAX_RETRIES: u64 = 65_535;
+
+pub const MAX_SEARCH_WIDTH: u64 = 0xffff_ffff;
+
+pub const MAX_DFS_BOUND: u64 = 0x1_0000_0000_0000;
+
+// The small case's completeness is this at most.
+const MAX_COMPLETENESS: f64 = 65535.0;
 
 // What prover and verifier are told.
 pub struct Params {
@@ -18,6 +34,31 @@ pub struct Params {
     pub dfs_bound: u64,
     // X: a last hash passes where its number is below it
     pub x: U128,
+}
+
+// The settings from seven numbers, X by its high word and its low.
+pub fn settings_of(
+    set_size: u64,
+    proof_size: u64,
+    max_retries: u64,
+    search_width: u64,
+    dfs_bound: u64,
+    x_high: u64,
+    x_low: u64,
+) -> Params
+    ensures { λ r. ⌜ r ≡ settingsOf «set_size» «proof_size» «max_retries» «search_width» «dfs_bound» «x_high» «x_low» ⌝ }
+{
+    Params {
+        set_size,
+        proof_size,
+        max_retries,
+        search_width,
+        dfs_bound,
+        x: U128 {
+            hi: x_high,
+            lo: x_low,
+        },
+    }
 }
 
 // What the check of the settings answers. Every X is lawful.
@@ -55,23 +96,23 @@ fn is_not_one_to(hi: u64, n: u64) -> bool
 fn is_limit_broken(p: Params) -> bool
     ensures { λ r. ⌜ r ≡ limitBroken p ⌝ }
 {
-    if p.proof_size > 1_024 {
+    if p.proof_size > MAX_PROOF_SIZE {
         return true;
     }
-    if p.max_retries > 65_535 {
+    if p.max_retries > MAX_RETRIES {
         return true;
     }
-    if p.search_width > 0xffff_ffff {
+    if p.search_width > MAX_SEARCH_WIDTH {
         return true;
     }
-    p.dfs_bound > 0x1_0000_0000_0000
+    p.dfs_bound > MAX_DFS_BOUND
 }
 
 // Lawful, or the first refusal in the table's order.
 pub fn check_params(p: Params) -> Checked
-    ensures { λ r. ⌜ checkedNumber r ≡ checked p ⌝ }
+    ensures { λ r. ⌜ checkedBy r ≡ checked p ⌝ }
 {
-    if is_not_one_to(32_768, p.set_size) {
+    if is_not_one_to(MAX_SET_SIZE, p.set_size) {
         return Checked::Refused(Refusal::SetSize);
     }
     if is_limit_broken(p) {
@@ -113,7 +154,7 @@ fn is_completeness_out(c: f64) -> bool
     if c < 0.0 {
         return true;
     }
-    c > 65535.0
+    c > MAX_COMPLETENESS
 }
 
 // X of q, or 0 where the converter refuses q. The small case's q is never refused (SmallCaseLaws).
@@ -148,9 +189,9 @@ fn small_settings(u: u64, c: f64) -> SmallSettings
 
 // The small case's settings for proofs of u elements with completeness c, or the first refusal in the table's order.
 pub fn param_small_case(u: u64, c: f64) -> SmallCase
-    ensures { λ r. ⌜ smallCaseNumber r ≡ smallCase u c ⌝ }
+    ensures { λ r. ⌜ smallCaseBy r ≡ smallCase u c ⌝ }
 {
-    if is_not_one_to(1_024, u) {
+    if is_not_one_to(MAX_PROOF_SIZE, u) {
         return SmallCase::Refused(Refusal::ProofSize);
     }
     if is_completeness_out(c) {

@@ -5,12 +5,15 @@ ghost use mathlib.Core.Bool.{false};
 ghost use Prim.Native.Nat.{_≤_};
 ghost use lib.Dec.{ltb};
 ghost use lib.ListN.{length};
-ghost use Rattle.centralized_telescope.specs.Elements.{endWrong, listCheck, lentAtEntry, lentAtExit};
-ghost use Rattle.centralized_telescope.specs.ProofList.{placeOut, joined, chosen, listOver, buffersShort, proofList, proofListOf};
+ghost use Rattle.centralized_telescope.specs.core.Elements.{endWrong, listCheck, lentAtEntry, maxElements};
+ghost use Rattle.centralized_telescope.specs.later.Words.{lentAtExit};
+ghost use Rattle.centralized_telescope.specs.later.ProofList.{placeOut, joinedData, chosen, listOver, buffersShort, proofList};
+ghost use Rattle.centralized_telescope.specs.later.ProofList.{proofListBy};
 ghost use Rattle.centralized_telescope.specs.inner.ListReading.{dataOf, lentNow};
 use crate::errors::Refusal;
 use crate::numbers::copy_at;
 use crate::types::ListCheck;
+use crate::types::MAX_ELEMENTS;
 use crate::types::check_list;
 use crate::types::data_of;
 use crate::types::index_of;
@@ -55,31 +58,31 @@ fn is_data_over(places: &[u32], data: &[u8], ends: &[u32], room: usize) -> bool
     false
 }
 
-// Whether one of four buffers, of so many numbers, is too short for the elements at the places.
+// Whether one of four buffers is too short for the elements at the places.
 fn some_buffer_short(
     places: &[u32],
     data: &[u8],
     ends: &[u32],
-    data_room: usize,
-    ends_room: usize,
-    marks_room: usize,
-    indexes_room: usize,
+    out_data: &[u8],
+    out_ends: &[u32],
+    out_marks: &[u8],
+    out_indexes: &[u64],
 ) -> bool
     requires { ⌜ (endWrong 0 (length (now «data»)) (now ends) ≡ false) × (placeOut (length (now ends)) (now places) ≡ false) ⌝ }
     ensures { λ r. ⌜ r ≡ buffersShort (length (now (places .entry)))
         (length (dataOf (now («data» .entry)) (now (ends .entry)) (now (places .entry))))
-        «data_room» «ends_room» «marks_room» «indexes_room» ⌝ }
+        (lentAtEntry «out_data» «out_ends» «out_marks» «out_indexes») ⌝ }
 {
-    if ends_room < places.len() {
+    if out_ends.len() < places.len() {
         return true;
     }
-    if marks_room < places.len() {
+    if out_marks.len() < places.len() {
         return true;
     }
-    if indexes_room < places.len() {
+    if out_indexes.len() < places.len() {
         return true;
     }
-    is_data_over(places, data, ends, data_room)
+    is_data_over(places, data, ends, out_data.len())
 }
 
 // Writes the elements at the places into buffers that have room for them.
@@ -94,11 +97,11 @@ fn write_elements(
     out_marks: &mut [u8],
     out_indexes: &mut [u64],
 ) -> Written
-    requires { ⌜ (listCheck (lentNow «data» ends marks indexes) ≡ 0) × (length (now places) ≤ 65536)
+    requires { ⌜ (listCheck (lentNow «data» ends marks indexes) ≡ 0) × (length (now places) ≤ maxElements)
         × (placeOut (length (now ends)) (now places) ≡ false)
-        × (buffersShort (length (now places)) (length (joined (chosen (now places) (lentNow «data» ends marks indexes))))
-        (length (now «out_data»)) (length (now «out_ends»)) (length (now «out_marks»)) (length (now «out_indexes»)) ≡ false) ⌝ }
-    ensures { λ r. ⌜ proofListOf r (lentAtExit «out_data» «out_ends» «out_marks» «out_indexes»)
+        × (buffersShort (length (now places)) (length (joinedData (chosen (now places) (lentNow «data» ends marks indexes))))
+        (lentNow «out_data» «out_ends» «out_marks» «out_indexes») ≡ false) ⌝ }
+    ensures { λ r. ⌜ proofListBy r (lentAtExit «out_data» «out_ends» «out_marks» «out_indexes»)
         ≡ listOver (chosen (now (places .entry)) (lentAtEntry «data» ends marks indexes))
         (lentAtEntry «out_data» «out_ends» «out_marks» «out_indexes») ⌝ }
 {
@@ -131,7 +134,7 @@ pub fn write_proof(
     out_marks: &mut [u8],
     out_indexes: &mut [u64],
 ) -> Written
-    ensures { λ r. ⌜ proofListOf r (lentAtExit «out_data» «out_ends» «out_marks» «out_indexes»)
+    ensures { λ r. ⌜ proofListBy r (lentAtExit «out_data» «out_ends» «out_marks» «out_indexes»)
         ≡ proofList (now (places .entry)) (lentAtEntry «data» ends marks indexes)
         (lentAtEntry «out_data» «out_ends» «out_marks» «out_indexes») ⌝ }
 {
@@ -141,7 +144,7 @@ pub fn write_proof(
             return Written::Refused(k);
         }
     }
-    if 65536 < places.len() {
+    if MAX_ELEMENTS < places.len() {
         return Written::Refused(Refusal::TooLarge);
     }
     if some_place_out(places, ends.len()) {
@@ -151,10 +154,10 @@ pub fn write_proof(
         places,
         data,
         ends,
-        out_data.len(),
-        out_ends.len(),
-        out_marks.len(),
-        out_indexes.len(),
+        out_data,
+        out_ends,
+        out_marks,
+        out_indexes,
     ) {
         return Written::Refused(Refusal::BufferShort);
     }

@@ -1,13 +1,14 @@
 // Rounds: their hashes and ids, an element's bin, and the yes or no on a last hash. Rounds, bins and the last hash each have a label.
 ghost use mathlib.Core.Path.{_≡_};
 ghost use mathlib.Core.List.{_++_};
-ghost use Prim.Native.Nat.{_+_, _^_, _<_, _≤_};
+ghost use Prim.Native.Nat.{_+_, _^_, _≤_};
 ghost use lib.ListN.{length, take};
-ghost use Rattle.sampling.specs.Fips180.{sha256};
-ghost use Rattle.sampling.specs.Sample.{drawNumber};
-ghost use Rattle.centralized_telescope.specs.Elements.{elements, elementAt, tail, listCheck, lentAtEntry};
-ghost use Rattle.centralized_telescope.specs.Rounds.{startHash, nextHash, drawn, roundId, binOf, saysYes};
-ghost use Rattle.centralized_telescope.specs.inner.ListReading.{elementOf, lentNow};
+ghost use Rattle.sampling.specs.core.Fips180.{sha256};
+ghost use Rattle.sampling.specs.core.Sample.{uniformBy};
+ghost use Rattle.centralized_telescope.specs.core.Elements.{elementAt, tail, maxDataBytes};
+ghost use Rattle.centralized_telescope.specs.core.Rounds.{startHash, nextHash, drawn, roundId, binOf, saysYes};
+ghost use Rattle.centralized_telescope.specs.inner.ListReading.{elementOf};
+ghost use Rattle.centralized_telescope.specs.inner.Source.{sourceNow, sourceAtEntry, meant, CanRead};
 ghost use Rattle.centralized_telescope.specs.inner.RoundAnswers.{idOption};
 use crate::types::Index;
 use crate::types::data_of;
@@ -48,7 +49,7 @@ fn digest(label: &[u8], a: &[u8], b: &[u8], c: &[u8]) -> [u8; 32]
 
 // The digest of a label, the bytes `first` and the tail of an element, which is given by its data and its index.
 fn tail_digest(label: &[u8], first: &[u8], own: &[u8], index: Index) -> [u8; 32]
-    requires { ⌜ (length (now label) + length (now first) ≤ 64) × (length (now own) ≤ 4096) ⌝ }
+    requires { ⌜ (length (now label) + length (now first) ≤ 64) × (length (now own) ≤ maxDataBytes) ⌝ }
     ensures { λ r.
         ⌜ r ≡ sha256 (now (label .entry) ++ (now (first .entry) ++ tail (elementOf (now (own .entry)) (index .mark) (index .number)))) ⌝ }
 {
@@ -69,13 +70,13 @@ pub fn start_hash(retry: RetryCounter, search: SearchCounter) -> [u8; 32]
 
 // The hash of the round after the one with the hash h, by an element.
 pub fn hash_after(h: [u8; 32], own: &[u8], index: Index) -> [u8; 32]
-    requires { ⌜ length (now own) ≤ 4096 ⌝ }
+    requires { ⌜ length (now own) ≤ maxDataBytes ⌝ }
     ensures { λ r. ⌜ r ≡ nextHash h (elementOf (now (own .entry)) (index .mark) (index .number)) ⌝ }
 {
     tail_digest(b"Telescope-round_hash", &h, own, index)
 }
 
-// The same by the element at a place.
+// The same by the element at a place of the source.
 pub fn next_hash(
     h: [u8; 32],
     data: &[u8],
@@ -84,8 +85,8 @@ pub fn next_hash(
     indexes: &[u64],
     place: usize,
 ) -> [u8; 32]
-    requires { ⌜ (listCheck (lentNow «data» ends marks indexes) ≡ 0) × (place < length (now ends)) ⌝ }
-    ensures { λ r. ⌜ r ≡ nextHash h (elementAt (elements (lentAtEntry «data» ends marks indexes)) place) ⌝ }
+    requires { ⌜ CanRead (sourceNow «data» ends marks indexes) place ⌝ }
+    ensures { λ r. ⌜ r ≡ nextHash h (elementAt (meant (sourceAtEntry «data» ends marks indexes)) place) ⌝ }
 {
     let own = data_of(data, ends, place);
     hash_after(h, own, index_of(marks, indexes, place))
@@ -102,7 +103,7 @@ fn first_half(h: [u8; 32]) -> [u8; 16]
 
 // What is drawn, if anything.
 fn id_of(d: Draw) -> Id
-    ensures { λ r. ⌜ idOption r ≡ drawn (drawNumber d) ⌝ }
+    ensures { λ r. ⌜ idOption r ≡ drawn (uniformBy d) ⌝ }
 {
     match d {
         Draw::Value(v) => Id::At(v),
@@ -130,7 +131,7 @@ pub fn round_of(h: [u8; 32], n: u64) -> Round
 
 // The bin of an element, in the try `retry`.
 pub fn bin_of(retry: RetryCounter, own: &[u8], index: Index, n: u64) -> Id
-    requires { ⌜ length (now own) ≤ 4096 ⌝ }
+    requires { ⌜ length (now own) ≤ maxDataBytes ⌝ }
     ensures { λ r. ⌜ idOption r ≡ binOf n (retry .0) (elementOf (now (own .entry)) (index .mark) (index .number)) ⌝ }
 {
     let retry_bytes = eight_bytes(retry.0);
@@ -140,7 +141,7 @@ pub fn bin_of(retry: RetryCounter, own: &[u8], index: Index, n: u64) -> Id
     )
 }
 
-// The same of the element at a place.
+// The same of the element at a place of the source.
 pub fn bin_hash(
     retry: RetryCounter,
     data: &[u8],
@@ -150,8 +151,8 @@ pub fn bin_hash(
     place: usize,
     n: u64,
 ) -> Id
-    requires { ⌜ (listCheck (lentNow «data» ends marks indexes) ≡ 0) × (place < length (now ends)) ⌝ }
-    ensures { λ r. ⌜ idOption r ≡ binOf n (retry .0) (elementAt (elements (lentAtEntry «data» ends marks indexes)) place) ⌝ }
+    requires { ⌜ CanRead (sourceNow «data» ends marks indexes) place ⌝ }
+    ensures { λ r. ⌜ idOption r ≡ binOf n (retry .0) (elementAt (meant (sourceAtEntry «data» ends marks indexes)) place) ⌝ }
 {
     let own = data_of(data, ends, place);
     bin_of(retry, own, index_of(marks, indexes, place), n)

@@ -1,12 +1,12 @@
 // What is promised beyond the single calls. Each function here does nothing: its contract is a theorem of `specs/`, so that the crate is
 // not proved without it, and the check names it.
-ghost use Rattle.centralized_telescope.specs.AllCases.{AllCases};
-ghost use Rattle.centralized_telescope.specs.Demand3.{demand3, servedExample};
-ghost use Rattle.centralized_telescope.specs.Distinct.{distinctExactly};
-ghost use Rattle.centralized_telescope.specs.FirstLayout.{firstRefused};
-ghost use Rattle.centralized_telescope.specs.PlanClaims.{planSuffices, planNeeded, stepsNotPassed, ticketFits, tightExample};
-ghost use Rattle.centralized_telescope.specs.ProofSize.{sizeNeverFalls, sizeNeverRises};
-ghost use Rattle.centralized_telescope.specs.TicketClaims.{readsBack, writesBack, judgedAlike, ticketsExactly, blocksCounted};
+ghost use Rattle.centralized_telescope.specs.later.AllCases.{AllCases};
+ghost use Rattle.centralized_telescope.specs.core.Demand3.{demand3, servedExample};
+ghost use Rattle.centralized_telescope.specs.later.Distinct.{distinctExactly};
+ghost use Rattle.centralized_telescope.specs.later.FirstLayout.{firstRefused};
+ghost use Rattle.centralized_telescope.specs.later.PlanClaims.{planSuffices, planNeeded, stepsNotPassed, ticketFits, tightExample};
+ghost use Rattle.centralized_telescope.specs.later.ProofSize.{sizeNeverFalls, sizeNeverRises};
+ghost use Rattle.centralized_telescope.specs.later.TicketClaims.{readsBack, writesBack, judgedAlike, ticketsExactly, blocksCounted};
 
 // The claim on prove and verify at once, for every run that is served.
 pub fn demand_3()
@@ -43,8 +43,8 @@ pub fn ticket_judged_alike()
     ensures { λ _. ⌜ judgedAlike ⌝ }
 {}
 
-// Of whole blocks whose checks hold, the reader's 41 is for those that are no proof's ticket; 40 is for damaged bytes, 42 for a proof's ticket
-// and a buffer too short. No two proofs have one ticket.
+// Of whole blocks whose checks hold, the reader's 41 is for those that are no proof's ticket; 40 is for damaged bytes, 42 for a proof's
+// ticket and a buffer too short. No two proofs have one ticket.
 pub fn tickets_exactly()
     ensures { λ _. ⌜ ticketsExactly ⌝ }
 {}
@@ -54,8 +54,8 @@ pub fn blocks_counted()
     ensures { λ _. ⌜ blocksCounted ⌝ }
 {}
 
-// A ticket of the first layout, without a number of blocks, is refused with 41 if R is below 2^32, whatever S and the elements are; with R = 2^32
-// one is another proof's ticket.
+// A ticket of the first layout, without a number of blocks, is refused with 41 if R is below 2^32, whatever S and the elements are. With
+// R = 2^32 one is another proof's ticket.
 pub fn first_layout_refused()
     ensures { λ _. ⌜ firstRefused ⌝ }
 {}
@@ -85,8 +85,8 @@ pub fn tight_example()
     ensures { λ _. ⌜ tightExample ⌝ }
 {}
 
-// Of figures within the ranges: the proof size never falls when soundness, completeness or the lower bound grows, having none counting as the
-// greatest.
+// Of figures within the ranges: the proof size never falls when soundness, completeness or the lower bound grows. No size (44) counts as
+// greater than any.
 pub fn size_never_falls()
     ensures { λ _. ⌜ sizeNeverFalls ⌝ }
 {}

@@ -4,21 +4,29 @@ ghost use mathlib.Core.Bool.{true, false};
 ghost use mathlib.Core.List.{_++_};
 ghost use Prim.Native.Nat.{_+_, _*_, _/_, _^_, _<_, _≤_};
 ghost use lib.Dec.{ltb};
-ghost use lib.ListN.{length, take, drop};
-ghost use Rattle.sampling.specs.BigEndian.{bigEndian, bytesOf};
-ghost use Rattle.centralized_telescope.specs.Lists.{someOf, over};
-ghost use Rattle.centralized_telescope.specs.Elements.{elements, indexOf, listCheck, lentAtEntry, lentAtExit};
+ghost use lib.ListN.{length, drop};
+ghost use Rattle.sampling.specs.core.BigEndian.{bigEndian, bytesOf};
+ghost use Rattle.centralized_telescope.specs.later.Words.{lentAtExit};
+ghost use Rattle.centralized_telescope.specs.core.Lists.{someOf, over};
+ghost use Rattle.centralized_telescope.specs.core.Elements.{elements, listCheck, lentAtEntry, maxElements};
 ghost use Rattle.centralized_telescope.specs.inner.ListReading.{lentNow};
-ghost use Rattle.centralized_telescope.specs.ProofList.{listOver, buffersShort, withBuffers};
-ghost use Rattle.centralized_telescope.specs.Blocks.{blockCount, bodiesOf, damaged};
-ghost use Rattle.centralized_telescope.specs.Tickets.{headBytes, elementsBytes, content, blocksIn, elementsIn, ticketWritten};
-ghost use Rattle.centralized_telescope.specs.Tickets.{ticketWrittenBy, ticketRead, ticketReadBy, elementsPart};
-ghost use Rattle.centralized_telescope.specs.inner.TicketReading.{HeadSays, LayoutSays, FoundSays};
-ghost use Rattle.centralized_telescope.specs.inner.TicketReading.{allLaidOut, dataSize, fillingRight};
+ghost use Rattle.centralized_telescope.specs.later.ProofList.{listOver, buffersShort, withBuffers};
+ghost use Rattle.centralized_telescope.specs.later.Blocks.{blockCount, bodiesOf, damaged, blockBytes, bodyBytes};
+ghost use Rattle.centralized_telescope.specs.later.ElementBytes.{elementsBytes};
+ghost use Rattle.centralized_telescope.specs.later.Tickets.{content, blocksIn, elementsIn, ticketWritten, ticketWrittenBy};
+ghost use Rattle.centralized_telescope.specs.later.Tickets.{ticketRead, ticketReadBy, elementsPart, ticketHeadBytes};
+ghost use Rattle.centralized_telescope.specs.inner.TicketReading.{HeadSays, LayoutSays, FoundSays, allLaidOut, dataSize};
+ghost use Rattle.centralized_telescope.specs.inner.TicketReading.{fillingRight};
+use crate::blocks::BLOCK_BYTES;
+use crate::blocks::BODY_BYTES;
+use crate::blocks::MAX_FILLING;
 use crate::blocks::copy_from_bodies;
 use crate::blocks::fill_zeros;
 use crate::blocks::is_damaged;
 use crate::blocks::seal;
+use crate::element_bytes::MAX_HEAD_BYTES;
+use crate::element_bytes::elements_size;
+use crate::element_bytes::write_elements_bytes;
 use crate::errors::Refusal;
 use crate::numbers::copy_at;
 use crate::numbers::least;
@@ -26,10 +34,13 @@ use crate::numbers::number;
 use crate::round::RetryCounter;
 use crate::round::SearchCounter;
 use crate::types::ListCheck;
+use crate::types::MAX_DATA_BYTES;
+use crate::types::MAX_ELEMENTS;
 use crate::types::check_list;
-use crate::types::data_of;
-use crate::types::index_of;
 use sampling::write_number;
+
+// So many bytes stand before a ticket's elements: the number of blocks, R, S and the number of elements.
+pub const HEAD_BYTES: usize = 24;
 
 // What `write_ticket` answers.
 pub enum TicketBlocks {
@@ -48,81 +59,6 @@ pub enum TicketProof {
 }
 
 // ---- Writing
-
-// What stands before an element's data: the first `len` of the bytes.
-pub struct ElementHead {
-    pub bytes: [u8; 13],
-    pub len: usize,
-}
-
-// The head of an element with `size` data bytes.
-fn element_head(mark: u8, index: u64, size: usize) -> ElementHead
-    requires { ⌜ size ≤ 4096 ⌝ }
-    ensures { λ r. ⌜ (r .len ≤ length (r .bytes)) × (take (r .len) (r .bytes) ≡ headBytes (indexOf mark «index») size) ⌝ }
-{
-    let mut bytes = [0u8; 13];
-    if mark != 1 {
-        write_number(size as u64, &mut bytes[1..5]);
-        return ElementHead {
-            bytes: bytes,
-            len: 5,
-        };
-    }
-    bytes[0] = 1;
-    write_number(index, &mut bytes[1..9]);
-    write_number(size as u64, &mut bytes[9..13]);
-    ElementHead {
-        bytes: bytes,
-        len: 13,
-    }
-}
-
-// How many bytes the elements of an accepted list take.
-fn elements_size(data: &[u8], ends: &[u32], marks: &[u8], indexes: &[u64]) -> usize
-    requires { ⌜ listCheck (lentNow «data» ends marks indexes) ≡ 0 ⌝ }
-    ensures { λ r.
-        ⌜ (r ≡ length (elementsBytes (elements (lentAtEntry «data» ends marks indexes)))) × (r ≤ 4109 * length (now (ends .entry))) ⌝ }
-{
-    let mut size: usize = 0;
-    let mut i = 0;
-    while i < ends.len() {
-        let own = data_of(data, ends, i);
-        let index = index_of(marks, indexes, i);
-        size += 5 + 8 * index.mark as usize + own.len();
-        i += 1;
-    }
-    size
-}
-
-// Writes the elements of an accepted list to the place `from` of a buffer that has room for them.
-fn write_elements_bytes(
-    data: &[u8],
-    ends: &[u32],
-    marks: &[u8],
-    indexes: &[u64],
-    from: usize,
-    out: &mut [u8],
-)
-    requires { ⌜ (listCheck (lentNow «data» ends marks indexes) ≡ 0)
-        × (from + length (elementsBytes (elements (lentNow «data» ends marks indexes))) ≤ length (now out)) ⌝ }
-    ensures { λ _. ⌜ now (out .exit)
-        ≡ over (take from (now (out .entry)) ++ elementsBytes (elements (lentAtEntry «data» ends marks indexes))) (now (out .entry)) ⌝ }
-{
-    let mut used = from;
-    let mut i = 0;
-    while i < ends.len() {
-        let own = data_of(data, ends, i);
-        let index = index_of(marks, indexes, i);
-        let head = element_head(index.mark, index.number, own.len());
-        let bytes = head.bytes;
-        let len = head.len;
-        copy_at(&bytes[..len], used, out);
-        used += len;
-        copy_at(own, used, out);
-        used += own.len();
-        i += 1;
-    }
-}
 
 // What stands between the number of blocks and the elements: R, S and the number of elements.
 fn content_head(retry: RetryCounter, search: SearchCounter, count: usize) -> [u8; 20]
@@ -148,7 +84,7 @@ fn write_content(
     out: &mut [u8],
 )
     requires { ⌜ (listCheck (lentNow «data» ends marks indexes) ≡ 0)
-        × (blocks ≡ blockCount (24 + length (elementsBytes (elements (lentNow «data» ends marks indexes)))))
+        × (blocks ≡ blockCount (ticketHeadBytes + length (elementsBytes (elements (lentNow «data» ends marks indexes)))))
         × (length (content (retry .0) (search .0) (elements (lentNow «data» ends marks indexes))) ≤ length (now out)) ⌝ }
     ensures { λ _.
         ⌜ now (out .exit) ≡ over (content (retry .0) (search .0) (elements (lentAtEntry «data» ends marks indexes))) (now (out .entry)) ⌝ }
@@ -156,7 +92,7 @@ fn write_content(
     let head = content_head(retry, search, ends.len());
     write_number(blocks as u64, &mut out[..4]);
     copy_at(&head, 4, out);
-    write_elements_bytes(data, ends, marks, indexes, 24, out);
+    write_elements_bytes(data, ends, marks, indexes, HEAD_BYTES, out);
 }
 
 // Writes the ticket of R, S and a list of elements over the first bytes of a lent buffer. Data that belongs to no element and an index
@@ -179,9 +115,9 @@ pub fn write_ticket(
             return TicketBlocks::Refused(k);
         }
     }
-    let size = 24 + elements_size(data, ends, marks, indexes);
-    let count = (size + 503) / 504;
-    if ticket.len() < 512 * count {
+    let size = HEAD_BYTES + elements_size(data, ends, marks, indexes);
+    let count = (size + MAX_FILLING) / BODY_BYTES;
+    if ticket.len() < BLOCK_BYTES * count {
         return TicketBlocks::Refused(Refusal::BufferShort);
     }
     write_content(
@@ -194,12 +130,12 @@ pub fn write_ticket(
         indexes,
         ticket,
     );
-    fill_zeros(&mut ticket[size..504 * count]);
+    fill_zeros(&mut ticket[size..BODY_BYTES * count]);
     seal(ticket, count);
     TicketBlocks::Written(count)
 }
 
-// ---- Reading. A place is one among the joined bodies.
+// ---- Reading. An offset is one into the joined bodies.
 
 // What a ticket has of an element before its data: how many bytes that takes, and how many data bytes follow.
 pub struct HeadRead {
@@ -209,7 +145,7 @@ pub struct HeadRead {
     pub size: usize,
 }
 
-// An element at a place, or bytes that can't be one.
+// An element at an offset, or bytes that can't be one.
 pub enum Head {
     Element(HeadRead),
     Outside,
@@ -229,14 +165,14 @@ pub enum Found {
 
 // How many bytes the joined bodies are.
 fn bodies_size(ticket: &[u8]) -> usize
-    ensures { λ r. ⌜ r ≡ 504 * (length (now (ticket .entry)) / 512) ⌝ }
+    ensures { λ r. ⌜ r ≡ bodyBytes * (length (now (ticket .entry)) / blockBytes) ⌝ }
 {
-    504 * (ticket.len() / 512)
+    BODY_BYTES * (ticket.len() / BLOCK_BYTES)
 }
 
-// The number that k bytes make from a place on.
+// The number that k bytes make from an offset on.
 fn field(ticket: &[u8], at: usize, k: usize) -> u64
-    requires { ⌜ (at + k ≤ 504 * (length (now ticket) / 512)) × (k ≤ 8) ⌝ }
+    requires { ⌜ (at + k ≤ bodyBytes * (length (now ticket) / blockBytes)) × (k ≤ 8) ⌝ }
     ensures { λ r. ⌜ (r ≡ bigEndian k (drop at (bodiesOf (now (ticket .entry))))) × (r < 256 ^ k) ⌝ }
 {
     let mut bytes = [0u8; 8];
@@ -248,15 +184,15 @@ fn field(ticket: &[u8], at: usize, k: usize) -> u64
 pub fn stated_blocks(ticket: &[u8]) -> u64
     ensures { λ r. ⌜ r ≡ blocksIn (bodiesOf (now (ticket .entry))) ⌝ }
 {
-    if ticket.len() < 512 {
+    if ticket.len() < BLOCK_BYTES {
         return 0;
     }
     field(ticket, 0, 4)
 }
 
-// The head of the element at a place, if one is there that ends within the bodies and has no more data than an element may have.
+// The head of the element at an offset, if one is there that ends within the bodies and has no more data than an element may have.
 fn head_at(ticket: &[u8], at: usize) -> Head
-    requires { ⌜ at ≤ 504 * (length (now ticket) / 512) ⌝ }
+    requires { ⌜ at ≤ bodyBytes * (length (now ticket) / blockBytes) ⌝ }
     ensures { λ r. ⌜ HeadSays r (drop at (bodiesOf (now (ticket .entry)))) ⌝ }
 {
     let left = bodies_size(ticket) - at;
@@ -264,8 +200,8 @@ fn head_at(ticket: &[u8], at: usize) -> Head
         return Head::Outside;
     }
     // at once, as far as the bodies go: a copy for each number takes longer
-    let mut bytes = [0u8; 13];
-    copy_from_bodies(ticket, at, least(left, 13), 0, &mut bytes);
+    let mut bytes = [0u8; MAX_HEAD_BYTES];
+    copy_from_bodies(ticket, at, least(left, MAX_HEAD_BYTES), 0, &mut bytes);
     let mark = bytes[0];
     if 1 < mark {
         return Head::Outside;
@@ -276,7 +212,7 @@ fn head_at(ticket: &[u8], at: usize) -> Head
     }
     let index = number(&bytes, 1, len - 5);
     let size = number(&bytes, len - 4, 4) as usize;
-    if 4096 < size {
+    if MAX_DATA_BYTES < size {
         return Head::Outside;
     }
     if left < len + size {
@@ -290,12 +226,12 @@ fn head_at(ticket: &[u8], at: usize) -> Head
     })
 }
 
-// The layout of so many elements from the place 24 on.
+// The layout of so many elements from the offset 24 on.
 fn layout_of(ticket: &[u8], count: usize) -> Layout
-    requires { ⌜ (24 ≤ 504 * (length (now ticket) / 512)) × (count ≤ 65536) ⌝ }
+    requires { ⌜ (ticketHeadBytes ≤ bodyBytes * (length (now ticket) / blockBytes)) × (count ≤ maxElements) ⌝ }
     ensures { λ r. ⌜ LayoutSays r count (bodiesOf (now (ticket .entry))) ⌝ }
 {
-    let mut at: usize = 24;
+    let mut at: usize = HEAD_BYTES;
     let mut used: usize = 0;
     let mut i = 0;
     while i < count {
@@ -327,16 +263,16 @@ fn some_over_zero(bytes: &[u8]) -> bool
     false
 }
 
-// Whether all that follows the place `end` is zeros, and less than a body.
+// Whether all that follows the offset `end` is zeros, and less than a body.
 fn is_filling_right(ticket: &[u8], end: usize) -> bool
-    requires { ⌜ end ≤ 504 * (length (now ticket) / 512) ⌝ }
+    requires { ⌜ end ≤ bodyBytes * (length (now ticket) / blockBytes) ⌝ }
     ensures { λ r. ⌜ r ≡ fillingRight (drop end (bodiesOf (now (ticket .entry)))) ⌝ }
 {
     let len = bodies_size(ticket) - end;
-    if 503 < len {
+    if MAX_FILLING < len {
         return false;
     }
-    let mut rest = [0u8; 504];
+    let mut rest = [0u8; BODY_BYTES];
     copy_from_bodies(ticket, end, len, 0, &mut rest);
     !some_over_zero(&rest[..len])
 }
@@ -349,11 +285,11 @@ fn find_elements(ticket: &[u8]) -> Found
     if ticket.len() == 0 {
         return Found::NoTicket;
     }
-    if stated_blocks(ticket) != (ticket.len() / 512) as u64 {
+    if stated_blocks(ticket) != (ticket.len() / BLOCK_BYTES) as u64 {
         return Found::NoTicket;
     }
     let count = field(ticket, 20, 4) as usize;
-    if 65536 < count {
+    if MAX_ELEMENTS < count {
         return Found::NoTicket;
     }
     let Layout::Elements(end, size) = layout_of(ticket, count) else {
@@ -369,26 +305,26 @@ fn find_elements(ticket: &[u8]) -> Found
 fn is_room_short(
     count: usize,
     size: usize,
-    data_room: usize,
-    ends_room: usize,
-    marks_room: usize,
-    indexes_room: usize,
+    data: &[u8],
+    ends: &[u32],
+    marks: &[u8],
+    indexes: &[u64],
 ) -> bool
-    ensures { λ r. ⌜ r ≡ buffersShort count size «data_room» «ends_room» «marks_room» «indexes_room» ⌝ }
+    ensures { λ r. ⌜ r ≡ buffersShort count size (lentAtEntry «data» ends marks indexes) ⌝ }
 {
-    if ends_room < count {
+    if ends.len() < count {
         return true;
     }
-    if marks_room < count {
+    if marks.len() < count {
         return true;
     }
-    if indexes_room < count {
+    if indexes.len() < count {
         return true;
     }
-    data_room < size
+    data.len() < size
 }
 
-// Writes so many elements from the place 24 on into buffers that have room for them, and says how many data bytes that took.
+// Writes so many elements from the offset 24 on into buffers that have room for them, and says how many data bytes that took.
 fn read_elements(
     ticket: &[u8],
     count: usize,
@@ -397,14 +333,14 @@ fn read_elements(
     marks: &mut [u8],
     indexes: &mut [u64],
 ) -> usize
-    requires { ⌜ (24 ≤ 504 * (length (now ticket) / 512)) × (count ≤ 65536)
+    requires { ⌜ (ticketHeadBytes ≤ bodyBytes * (length (now ticket) / blockBytes)) × (count ≤ maxElements)
         × (allLaidOut count (elementsPart (bodiesOf (now ticket))) ≡ true)
         × (dataSize count (elementsPart (bodiesOf (now ticket))) ≤ length (now «data»)) × (count ≤ length (now ends))
         × (count ≤ length (now marks)) × (count ≤ length (now indexes)) ⌝ }
     ensures { λ r. ⌜ withBuffers 0 r (lentAtExit «data» ends marks indexes)
         ≡ listOver (elementsIn count (elementsPart (bodiesOf (now (ticket .entry))))) (lentAtEntry «data» ends marks indexes) ⌝ }
 {
-    let mut at: usize = 24;
+    let mut at: usize = HEAD_BYTES;
     let mut used: usize = 0;
     let mut i = 0;
     while i < count {
@@ -441,14 +377,7 @@ pub fn read_ticket(
     let Found::Elements(count, size) = find_elements(ticket) else {
         return TicketProof::Refused(Refusal::NoTicket);
     };
-    if is_room_short(
-        count,
-        size,
-        data.len(),
-        ends.len(),
-        marks.len(),
-        indexes.len(),
-    ) {
+    if is_room_short(count, size, data, ends, marks, indexes) {
         return TicketProof::Refused(Refusal::BufferShort);
     }
     let len = read_elements(ticket, count, data, ends, marks, indexes);

@@ -4,8 +4,9 @@ ghost use mathlib.Core.Bool.{false, _||_};
 ghost use Prim.Native.Nat.{_-_, _<_, _≤_};
 ghost use lib.Dec.{ltb};
 ghost use lib.ListN.{length, take};
-ghost use Rattle.centralized_telescope.specs.Elements.{maxDataBytes, markOver, endWrong, dataLong, listCheck, listNumber, indexBytes};
-ghost use Rattle.centralized_telescope.specs.Elements.{markOf, numberOf, indexOf, lentAtEntry};
+ghost use Rattle.centralized_telescope.specs.core.Elements.{maxDataBytes, markOver, endWrong, dataLong, listCheck, listCheckBy};
+ghost use Rattle.centralized_telescope.specs.core.Elements.{indexBytes, indexOf, lentAtEntry};
+ghost use Rattle.centralized_telescope.specs.later.Words.{markOf, numberOf};
 ghost use Rattle.centralized_telescope.specs.inner.ListReading.{foundNumber, startAt, dataAt, indexAt};
 use crate::errors::Refusal;
 use crate::numbers::wide;
@@ -98,7 +99,7 @@ pub fn list_answer(
     end_wrong: bool,
     data_long: bool,
 ) -> ListCheck
-    ensures { λ r. ⌜ listNumber r ≡ foundNumber ends marks indexes «mark_over» «end_wrong» «data_long» ⌝ }
+    ensures { λ r. ⌜ listCheckBy r ≡ foundNumber ends marks indexes «mark_over» «end_wrong» «data_long» ⌝ }
 {
     if ends != marks {
         return ListCheck::Refused(Refusal::Malformed);
@@ -123,7 +124,7 @@ pub fn list_answer(
 
 // Whether a lent list is accepted.
 pub fn check_list(data: &[u8], ends: &[u32], marks: &[u8], indexes: &[u64]) -> ListCheck
-    ensures { λ r. ⌜ listNumber r ≡ listCheck (lentAtEntry «data» ends marks indexes) ⌝ }
+    ensures { λ r. ⌜ listCheckBy r ≡ listCheck (lentAtEntry «data» ends marks indexes) ⌝ }
 {
     let mark_over = some_mark_over(marks);
     let end_wrong = some_end_wrong(ends, data.len());

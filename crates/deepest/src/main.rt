@@ -9,9 +9,9 @@ use centralized_telescope::RetryCounter;
 use centralized_telescope::SearchCounter;
 use centralized_telescope::proof_search_number;
 use centralized_telescope::verdict_number;
+use outcomes::say_outcome;
 use sampling::U128;
 use text::one_if;
-use text::outcome::say_outcome;
 use text::say::say;
 use text::say::say_number;
 

@@ -9,10 +9,10 @@ use lib.Ieee.{Float}
 use lib.ListN.{length, take, drop, set, drop-of-length-le}
 use lib.Seq.{sets-eq}
 use Rattle.sampling.specs.laws.CommonLaws.{copied}
-use Rattle.sampling.specs.Hash.{hashed}
-use Rattle.centralized_telescope.specs.Elements.{lentOf}
-use Rattle.centralized_telescope.specs.Distinct.{distinct}
-use Rattle.centralized_telescope.specs.Params.{smallCase}
+use Rattle.sampling.specs.core.Hash.{hashed}
+use Rattle.centralized_telescope.specs.core.Elements.{Lent}
+use Rattle.centralized_telescope.specs.later.Distinct.{distinct}
+use Rattle.centralized_telescope.specs.later.SmallCase.{smallCase}
 use Rattle.centralized_telescope.specs.declared.params.SmallSettings.{SmallSettings}
 use Rattle.harness_exports.specs.Exported.{exportedHash, withSettings, exportedSmallCase, said, exportedDistinct}
 
@@ -54,6 +54,6 @@ pub not-said : (k : ℕ) (r : Bool) → (k ≡ 0 → ⊥) → k ≡ said k r
 not-said zero r n = absurd (n refl)
 not-said (suc k) r n = refl
 
-pub told : (d n m x : List ℕ) (k : ℕ) (r : Bool) → (k, r) ≡ distinct (lentOf d n m x) → said k r ≡ exportedDistinct d n m x
+pub told : (lent : Lent) (k : ℕ) (r : Bool) → (k, r) ≡ distinct lent → said k r ≡ exportedDistinct lent
 unfolding exportedDistinct
-told d n m x k r e = rw (← e)
+told lent k r e = rw (← e)

@@ -6,7 +6,7 @@ use native.Mathlib.Omega.{arith}
 use borrow.Author.Tests.{le-leb, lt-leb}
 use lib.ListN.{length, set}
 use lib.Seq.{sets-eq}
-use Rattle.centralized_telescope.specs.Plan.{planned, plannedBy}
+use Rattle.centralized_telescope.specs.later.Plan.{planned, plannedBy}
 use Rattle.centralized_telescope.specs.declared.params.Params.{Params}
 use Rattle.centralized_telescope.specs.declared.planning.Amounts.{Amounts}
 use Rattle.centralized_telescope.specs.declared.planning.Planned.{Planned}
@@ -17,7 +17,8 @@ use Rattle.harness_exports.specs.Exported.{inPlanNumbers, planNumbers, w
 pub amounts-put : (out : List ℕ) (a : Amounts) → 4 ≤ length out
     → set (set (set (set out 0 (a .places)) 1 (a .«bin_table»)) 2 (a .«most_steps»)) 3 (a .«ticket_blocks») ≡ withAmounts a out
 unfolding withAmounts
-amounts-put out a h = rw (le-leb 4 (length out) h) (sets-eq (a .places ∷ a .«bin_table» ∷ a .«most_steps» ∷ a .«ticket_blocks» ∷ []) out 0 (omega arith))
+amounts-put out a h =
+    rw (le-leb 4 (length out) h) (sets-eq (a .places ∷ a .«bin_table» ∷ a .«most_steps» ∷ a .«ticket_blocks» ∷ []) out 0 (omega arith))
 
 pub amounts-left : (out : List ℕ) (a : Amounts) → length out < 4 → out ≡ withAmounts a out
 unfolding withAmounts

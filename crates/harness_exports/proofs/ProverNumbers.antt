@@ -6,13 +6,13 @@ use native.Mathlib.Omega.{arith}
 use borrow.Author.Tests.{le-leb, lt-leb}
 use lib.ListN.{length, set}
 use lib.Seq.{sets-eq}
-use Rattle.centralized_telescope.specs.Elements.{lentOf}
-use Rattle.centralized_telescope.specs.Prover.{Proved, proved, provedBy}
+use Rattle.centralized_telescope.specs.core.Elements.{Lent}
+use Rattle.centralized_telescope.specs.core.Prover.{Proved, proved, provedBy}
 use Rattle.centralized_telescope.specs.declared.params.Params.{Params}
-use Rattle.centralized_telescope.specs.declared.proof.ProofSearch.{ProofSearch}
-use Rattle.centralized_telescope.specs.declared.proof.ProofSearch.the-variants as answer
+use Rattle.centralized_telescope.specs.declared.search.ProofSearch.{ProofSearch}
+use Rattle.centralized_telescope.specs.declared.search.ProofSearch.the-variants as answer
 use Rattle.harness_exports.specs.declared.Numbers.{Numbers}
-use Rattle.harness_exports.specs.Exported.{inNumbers, numbersOf, withCounters, exportedProve}
+use Rattle.harness_exports.specs.Exported.{inNumbers, searchNumbers, withCounters, exportedProve}
 
 -- three stores
 pub counters-put : (out : List ℕ) (n : Numbers) → 3 ≤ length out
@@ -26,12 +26,13 @@ counters-left out n h = rw (lt-leb 3 (length out) h)
 
 -- an answer's numbers, where k is its number and b what it is
 pub with-number : (a b : ProofSearch) (k : ℕ) → k ≡ provedBy a [] [] .number → a ≡ b
-    → _≡_ {A = Numbers} (record { number = k; retry = numbersOf b .retry; search = numbersOf b .search; count = numbersOf b .count })
-    (numbersOf a)
+    → _≡_ {A = Numbers}
+    (record { number = k; retry = searchNumbers b .retry; search = searchNumbers b .search; count = searchNumbers b .count })
+    (searchNumbers a)
 with-number a b k e g = rw (e, g)
 
 -- the numbers don't hang on what is lent
-same-numbers : (a : ProofSearch) (places table : List ℕ) → numbersOf a ≡ inNumbers (provedBy a places table)
+same-numbers : (a : ProofSearch) (places table : List ℕ) → searchNumbers a ≡ inNumbers (provedBy a places table)
 same-numbers (answer.Found R S count) places table = refl
 same-numbers (answer.NotFoundInBounds count) places table = refl
 same-numbers (answer.NotFound count) places table = refl
@@ -44,14 +45,13 @@ same-places (answer.NotFoundInBounds count) places table = (refl, refl)
 same-places (answer.NotFound count) places table = (refl, refl)
 same-places (answer.Refused k) places table = (refl, refl)
 
-pub exported-so : (p : Params) (bytes ends marks indexes places table out : List ℕ) (a : ProofSearch) (n : Numbers)
-    (places′ table′ out′ : List ℕ)
-    → provedBy a places′ table′ ≡ proved p (lentOf bytes ends marks indexes) places table
-    → n ≡ numbersOf a
+pub exported-so : (p : Params) (lent : Lent) (places table out : List ℕ) (a : ProofSearch) (n : Numbers) (places′ table′ out′ : List ℕ)
+    → provedBy a places′ table′ ≡ proved p lent places table
+    → n ≡ searchNumbers a
     → out′ ≡ withCounters n out
-    → (n .number, places′, table′, out′) ≡ exportedProve p bytes ends marks indexes places table out
+    → (n .number, places′, table′, out′) ≡ exportedProve p lent places table out
 unfolding exportedProve
-exported-so p bytes ends marks indexes places table out a n places′ table′ out′ e en eo =
+exported-so p lent places table out a n places′ table′ out′ e en eo =
     let r = provedBy a places′ table′ in
     let m : n ≡ inNumbers r = en ∙ same-numbers a places′ table′ in
     let k = same-places a places′ table′ in

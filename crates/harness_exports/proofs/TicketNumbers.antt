@@ -6,8 +6,8 @@ use native.Mathlib.Omega.{arith}
 use borrow.Author.Tests.{le-leb, lt-leb}
 use lib.ListN.{length, set}
 use lib.Seq.{sets-eq}
-use Rattle.centralized_telescope.specs.Elements.{lentOf}
-use Rattle.centralized_telescope.specs.Tickets.{TicketWritten, ticketWritten, ticketWrittenBy, TicketRead, ticketRead, ticketReadBy}
+use Rattle.centralized_telescope.specs.core.Elements.{Lent}
+use Rattle.centralized_telescope.specs.later.Tickets.{TicketWritten, ticketWritten, ticketWrittenBy, TicketRead, ticketRead, ticketReadBy}
 use Rattle.centralized_telescope.specs.declared.ticket.TicketBlocks.{TicketBlocks}
 use Rattle.centralized_telescope.specs.declared.ticket.TicketBlocks.the-variants as blocksAnswer
 use Rattle.centralized_telescope.specs.declared.ticket.TicketProof.{TicketProof}
@@ -37,14 +37,13 @@ same-ticket : (a : TicketBlocks) (blocks : List ℕ) → blocks ≡ ticketWritte
 same-ticket (blocksAnswer.Written n) blocks = refl
 same-ticket (blocksAnswer.Refused k) blocks = refl
 
-pub exported-written : (R S : ℕ) (bytes ends marks indexes blocks out : List ℕ) (a : TicketBlocks) (n : BlocksNumbers)
-    (blocks′ out′ : List ℕ)
-    → ticketWrittenBy a blocks′ ≡ ticketWritten R S (lentOf bytes ends marks indexes) blocks
+pub exported-written : (R S : ℕ) (lent : Lent) (blocks out : List ℕ) (a : TicketBlocks) (n : BlocksNumbers) (blocks′ out′ : List ℕ)
+    → ticketWrittenBy a blocks′ ≡ ticketWritten R S lent blocks
     → n ≡ blocksNumbers a
     → out′ ≡ withFirst (n .blocks) out
-    → (n .number, blocks′, out′) ≡ exportedWriteTicket R S bytes ends marks indexes blocks out
+    → (n .number, blocks′, out′) ≡ exportedWriteTicket R S lent blocks out
 unfolding exportedWriteTicket
-exported-written R S bytes ends marks indexes blocks out a n blocks′ out′ e en eo =
+exported-written R S lent blocks out a n blocks′ out′ e en eo =
     let r = ticketWrittenBy a blocks′ in
     let m : n ≡ inBlocksNumbers r = en ∙ same-blocks a blocks′ in
     let here : _≡_ {A = ℕ × List ℕ × List ℕ} (n .number, blocks′, out′) (r .number, r .buffer, withFirst (r .count) out) =
@@ -63,32 +62,23 @@ pub read-left : (out : List ℕ) (n : ReadNumbers) → length out < 4 → out �
 unfolding withRead
 read-left out n h = rw (lt-leb 4 (length out) h)
 
-same-read : (a : TicketProof) (bytes ends marks indexes : List ℕ)
-    → readNumbers a ≡ inReadNumbers (ticketReadBy a (lentOf bytes ends marks indexes))
-same-read (proofAnswer.Read R S count len) bytes ends marks indexes = refl
-same-read (proofAnswer.Refused k) bytes ends marks indexes = refl
+same-read : (a : TicketProof) (buffers : Lent) → readNumbers a ≡ inReadNumbers (ticketReadBy a buffers)
+same-read (proofAnswer.Read R S count len) buffers = refl
+same-read (proofAnswer.Refused k) buffers = refl
 
-same-list : (a : TicketProof) (bytes ends marks indexes : List ℕ)
-    → (bytes ≡ ticketReadBy a (lentOf bytes ends marks indexes) .bytes)
-    × (ends ≡ ticketReadBy a (lentOf bytes ends marks indexes) .ends)
-    × (marks ≡ ticketReadBy a (lentOf bytes ends marks indexes) .marks)
-    × (indexes ≡ ticketReadBy a (lentOf bytes ends marks indexes) .indexes)
-same-list (proofAnswer.Read R S count len) bytes ends marks indexes = (refl, refl, refl, refl)
-same-list (proofAnswer.Refused k) bytes ends marks indexes = (refl, refl, refl, refl)
+same-buffers : (a : TicketProof) (buffers : Lent) → buffers ≡ ticketReadBy a buffers .buffers
+same-buffers (proofAnswer.Read R S count len) buffers = refl
+same-buffers (proofAnswer.Refused k) buffers = refl
 
-pub exported-read : (t bytes ends marks indexes out : List ℕ) (a : TicketProof) (n : ReadNumbers)
-    (bytes′ ends′ marks′ indexes′ out′ : List ℕ)
-    → ticketReadBy a (lentOf bytes′ ends′ marks′ indexes′) ≡ ticketRead t (lentOf bytes ends marks indexes)
+pub exported-read : (t : List ℕ) (buffers : Lent) (out : List ℕ) (a : TicketProof) (n : ReadNumbers) (buffers′ : Lent) (out′ : List ℕ)
+    → ticketReadBy a buffers′ ≡ ticketRead t buffers
     → n ≡ readNumbers a
     → out′ ≡ withRead n out
-    → (n .number, bytes′, ends′, marks′, indexes′, out′) ≡ exportedReadTicket t bytes ends marks indexes out
+    → (n .number, buffers′, out′) ≡ exportedReadTicket t buffers out
 unfolding exportedReadTicket
-exported-read t bytes ends marks indexes out a n bytes′ ends′ marks′ indexes′ out′ e en eo =
-    let r = ticketReadBy a (lentOf bytes′ ends′ marks′ indexes′) in
-    let m : n ≡ inReadNumbers r = en ∙ same-read a bytes′ ends′ marks′ indexes′ in
-    let k = same-list a bytes′ ends′ marks′ indexes′ in
-    let here : _≡_ {A = ℕ × List ℕ × List ℕ × List ℕ × List ℕ × List ℕ}
-    (n .number, bytes′, ends′, marks′, indexes′, out′)
-    (r .number, r .bytes, r .ends, r .marks, r .indexes, withRead (inReadNumbers r) out) =
-    rw (eo, m, ← k .0, ← k .1, ← k .2, ← k .3) in
-    here ∙ ap (λ (q : TicketRead). (q .number, q .bytes, q .ends, q .marks, q .indexes, withRead (inReadNumbers q) out)) e
+exported-read t buffers out a n buffers′ out′ e en eo =
+    let r = ticketReadBy a buffers′ in
+    let m : n ≡ inReadNumbers r = en ∙ same-read a buffers′ in
+    let here : _≡_ {A = ℕ × Lent × List ℕ} (n .number, buffers′, out′) (r .number, r .buffers, withRead (inReadNumbers r) out) =
+    rw (eo, m, ← same-buffers a buffers′) in
+    here ∙ ap (λ (q : TicketRead). (q .number, q .buffers, withRead (inReadNumbers q) out)) e

@@ -6,18 +6,18 @@ use Prim.Native.Nat.{ℕ, zero, suc}
 use lib.Dec.{eqb, leb}
 use lib.Ieee.{Float}
 use lib.ListN.{length, drop}
-use Rattle.sampling.specs.Hash.{hashed}
-use Rattle.centralized_telescope.specs.Elements.{lentOf}
-use Rattle.centralized_telescope.specs.Distinct.{distinct}
-use Rattle.centralized_telescope.specs.Params.{smallCase}
-use Rattle.centralized_telescope.specs.Plan.{planned, plannedBy}
-use Rattle.centralized_telescope.specs.ProofSize.{SizeIs, sizeNumber}
-use Rattle.centralized_telescope.specs.Prover.{Proved, proved, provedBy}
-use Rattle.centralized_telescope.specs.Tickets.{TicketWritten, ticketWritten, ticketWrittenBy, TicketRead, ticketRead, ticketReadBy}
+use Rattle.sampling.specs.core.Hash.{hashed}
+use Rattle.centralized_telescope.specs.core.Elements.{Lent, lentOf}
+use Rattle.centralized_telescope.specs.later.Distinct.{distinct}
+use Rattle.centralized_telescope.specs.later.SmallCase.{smallCase}
+use Rattle.centralized_telescope.specs.later.Plan.{planned, plannedBy}
+use Rattle.centralized_telescope.specs.later.ProofSize.{SizeIs, sizeBy}
+use Rattle.centralized_telescope.specs.core.Prover.{Proved, proved, provedBy}
+use Rattle.centralized_telescope.specs.later.Tickets.{TicketWritten, ticketWritten, ticketWrittenBy, TicketRead, ticketRead, ticketReadBy}
 use Rattle.centralized_telescope.specs.declared.params.Params.{Params}
 use Rattle.centralized_telescope.specs.declared.planning.Amounts.{Amounts}
 use Rattle.centralized_telescope.specs.declared.planning.Planned.{Planned}
-use Rattle.centralized_telescope.specs.declared.proof.ProofSearch.{ProofSearch}
+use Rattle.centralized_telescope.specs.declared.search.ProofSearch.{ProofSearch}
 use Rattle.centralized_telescope.specs.declared.security.SmallestSize.{SmallestSize}
 use Rattle.centralized_telescope.specs.declared.ticket.TicketBlocks.{TicketBlocks}
 use Rattle.centralized_telescope.specs.declared.ticket.TicketProof.{TicketProof}
@@ -50,11 +50,9 @@ abbrev pub said : ℕ → Bool → ℕ
 said zero r = cond r 0 1
 said (suc k) r = suc k
 
--- distinctness: of data, ends, marks and indexes
-unfoldable pub exportedDistinct : List ℕ → List ℕ → List ℕ → List ℕ → ℕ
-exportedDistinct bytes ends marks indexes =
-    let r : ℕ × Bool = distinct (lentOf bytes ends marks indexes) in
-    said (r .0) (r .1)
+-- distinctness of a list
+unfoldable pub exportedDistinct : Lent → ℕ
+exportedDistinct lent = let r : ℕ × Bool = distinct lent in said (r .0) (r .1)
 
 -- ---- the prover
 
@@ -66,17 +64,17 @@ withoutProof k count = record { number = k; retry = 0; search = 0; count = count
 abbrev pub inNumbers : Proved → Numbers
 inNumbers r = record { number = r .number; retry = r .retry; search = r .search; count = r .count }
 
-abbrev pub numbersOf : ProofSearch → Numbers
-numbersOf a = inNumbers (provedBy a [] [])
+abbrev pub searchNumbers : ProofSearch → Numbers
+searchNumbers a = inNumbers (provedBy a [] [])
 
 -- R, S and the step count in the first three lent numbers, where there are as many
 unfoldable pub withCounters : Numbers → List ℕ → List ℕ
 withCounters n out = cond (leb 3 (length out)) (n .retry ∷ n .search ∷ n .count ∷ drop 3 out) out
 
 -- the number, and places, bin table and the lent numbers afterwards
-unfoldable pub exportedProve : Params → List ℕ → List ℕ → List ℕ → List ℕ → List ℕ → List ℕ → List ℕ → ℕ × List ℕ × List ℕ × List ℕ
-exportedProve p bytes ends marks indexes places table out =
-    let r : Proved = proved p (lentOf bytes ends marks indexes) places table in
+unfoldable pub exportedProve : Params → Lent → List ℕ → List ℕ → List ℕ → ℕ × List ℕ × List ℕ × List ℕ
+exportedProve p lent places table out =
+    let r : Proved = proved p lent places table in
     (r .number, r .places, r .table, withCounters (inNumbers r) out)
 
 -- ---- tickets
@@ -93,9 +91,9 @@ unfoldable pub withFirst : ℕ → List ℕ → List ℕ
 withFirst v out = cond (leb 1 (length out)) (v ∷ drop 1 out) out
 
 -- the number, and the lent blocks and numbers afterwards
-unfoldable pub exportedWriteTicket : ℕ → ℕ → List ℕ → List ℕ → List ℕ → List ℕ → List ℕ → List ℕ → ℕ × List ℕ × List ℕ
-exportedWriteTicket R S bytes ends marks indexes blocks out =
-    let r : TicketWritten = ticketWritten R S (lentOf bytes ends marks indexes) blocks in
+unfoldable pub exportedWriteTicket : ℕ → ℕ → Lent → List ℕ → List ℕ → ℕ × List ℕ × List ℕ
+exportedWriteTicket R S lent blocks out =
+    let r : TicketWritten = ticketWritten R S lent blocks in
     (r .number, r .buffer, withFirst (r .count) out)
 
 -- the numbers of the reader's answer
@@ -109,11 +107,11 @@ readNumbers a = inReadNumbers (ticketReadBy a (lentOf [] [] [] []))
 unfoldable pub withRead : ReadNumbers → List ℕ → List ℕ
 withRead n out = cond (leb 4 (length out)) (n .retry ∷ n .search ∷ n .count ∷ n .len ∷ drop 4 out) out
 
--- the number, and the lent list and numbers afterwards
-unfoldable pub exportedReadTicket : List ℕ → List ℕ → List ℕ → List ℕ → List ℕ → List ℕ → ℕ × List ℕ × List ℕ × List ℕ × List ℕ × List ℕ
-exportedReadTicket t bytes ends marks indexes out =
-    let r : TicketRead = ticketRead t (lentOf bytes ends marks indexes) in
-    (r .number, r .bytes, r .ends, r .marks, r .indexes, withRead (inReadNumbers r) out)
+-- the number, and the lent buffers and numbers afterwards
+unfoldable pub exportedReadTicket : List ℕ → Lent → List ℕ → ℕ × Lent × List ℕ
+exportedReadTicket t buffers out =
+    let r : TicketRead = ticketRead t buffers in
+    (r .number, r .buffers, withRead (inReadNumbers r) out)
 
 -- ---- planning
 
@@ -136,7 +134,7 @@ exportedPlan p longest out = (planned p longest .0, withAmounts (planned p longe
 
 -- the number and the size of an answer
 abbrev pub sizeNumbers : SmallestSize → SizeNumbers
-sizeNumbers a = record { number = sizeNumber a .0; size = sizeNumber a .1 }
+sizeNumbers a = record { number = sizeBy a .0; size = sizeBy a .1 }
 
 -- the number, and the lent numbers afterwards: the size, 0 with a refusal, in the first of them
 abbrev pub ExportedSize : ℕ → ℕ → ℕ → ℕ → List ℕ → ℕ → List ℕ → Type 0

@@ -2,13 +2,17 @@
 ghost use mathlib.Core.Path.{_≡_};
 ghost use mathlib.Core.List.{_++_};
 ghost use lib.ListN.{length};
-ghost use Rattle.centralized_telescope.specs.Blocks.{bodiesOf};
-ghost use Rattle.centralized_telescope.specs.Exports.{settingsOf};
-ghost use Rattle.centralized_telescope.specs.Tickets.{blocksIn};
-ghost use Rattle.harness_exports.specs.Exported.{exportedHash, six, exportedSmallCase, exportedDistinct, withoutProof, numbersOf, withCounters, exportedProve, blocksNumbers, withFirst, exportedWriteTicket, readNumbers, withRead, exportedReadTicket, planNumbers, withAmounts, exportedPlan, sizeNumbers, ExportedSize};
+ghost use Rattle.centralized_telescope.specs.later.Blocks.{bodiesOf};
+ghost use Rattle.centralized_telescope.specs.core.Elements.{lentAtEntry};
+ghost use Rattle.centralized_telescope.specs.later.Words.{lentAtExit};
+ghost use Rattle.centralized_telescope.specs.core.Params.{settingsOf};
+ghost use Rattle.centralized_telescope.specs.later.Tickets.{blocksIn};
+ghost use Rattle.harness_exports.specs.Exported.{exportedHash, six, exportedSmallCase, exportedDistinct, withoutProof, searchNumbers};
+ghost use Rattle.harness_exports.specs.Exported.{withCounters, exportedProve, blocksNumbers, withFirst, exportedWriteTicket};
+ghost use Rattle.harness_exports.specs.Exported.{readNumbers, withRead, exportedReadTicket, planNumbers, withAmounts, exportedPlan};
+ghost use Rattle.harness_exports.specs.Exported.{sizeNumbers, ExportedSize};
 use centralized_telescope::Amounts;
 use centralized_telescope::Distinctness;
-use centralized_telescope::Params;
 use centralized_telescope::Planned;
 use centralized_telescope::ProofSearch;
 use centralized_telescope::RetryCounter;
@@ -20,13 +24,14 @@ use centralized_telescope::TicketBlocks;
 use centralized_telescope::TicketProof;
 use centralized_telescope::proof_search_number;
 use centralized_telescope::refusal_number;
-use sampling::U128;
+use centralized_telescope::settings_of;
 
 // SHA-256 of four strings joined into 32 lent bytes: 0 with the digest, 9 with zeros, or 8 with nothing written where `out`
 // isn't 32 bytes.
 #[no_mangle]
 pub extern "C" fn alba_sha256(a: &[u8], b: &[u8], c: &[u8], d: &[u8], out: &mut [u8]) -> u32
-    ensures { λ r. ⌜ (r, now (out .exit)) ≡ exportedHash (now (a .entry) ++ (now (b .entry) ++ (now (c .entry) ++ now (d .entry)))) (now (out .entry)) ⌝ }
+    ensures { λ r. ⌜ (r, now (out .exit))
+        ≡ exportedHash (now (a .entry) ++ (now (b .entry) ++ (now (c .entry) ++ now (d .entry)))) (now (out .entry)) ⌝ }
 {
     if out.len() != 32 {
         return 8;
@@ -79,7 +84,7 @@ pub extern "C" fn alba_check_distinct(
     marks: &[u8],
     indexes: &[u64],
 ) -> u32
-    ensures { λ r. ⌜ r ≡ exportedDistinct (now («data» .entry)) (now (ends .entry)) (now (marks .entry)) (now (indexes .entry)) ⌝ }
+    ensures { λ r. ⌜ r ≡ exportedDistinct (lentAtEntry «data» ends marks indexes) ⌝ }
 {
     let answer = centralized_telescope::check_distinct(data, ends, marks, indexes);
     match answer {
@@ -109,7 +114,7 @@ fn without_proof(number: u32, count: u64) -> Numbers
 }
 
 fn numbers_of(answer: ProofSearch) -> Numbers
-    ensures { λ r. ⌜ r ≡ numbersOf answer ⌝ }
+    ensures { λ r. ⌜ r ≡ searchNumbers answer ⌝ }
 {
     let number = proof_search_number(answer);
     match answer {
@@ -136,7 +141,8 @@ fn put_counters(n: Numbers, out: &mut [u64])
     }
 }
 
-// The prover: 0 or the number. X is passed as its high word, then its low. `out` takes R, S and the step count where it has three numbers or more.
+// The prover: 0 or the number. X is passed as its high word, then its low. `out` takes R, S and the step count where it has three numbers
+// or more.
 #[no_mangle]
 pub extern "C" fn alba_prove(
     set_size: u64,
@@ -154,19 +160,19 @@ pub extern "C" fn alba_prove(
     table: &mut [u32],
     out: &mut [u64],
 ) -> u32
-    ensures { λ r. ⌜ (r, now (places .exit), now (table .exit), now (out .exit)) ≡ exportedProve (settingsOf «set_size» «proof_size» «max_retries» «search_width» «dfs_bound» «x_high» «x_low») (now («data» .entry)) (now (ends .entry)) (now (marks .entry)) (now (indexes .entry)) (now (places .entry)) (now (table .entry)) (now (out .entry)) ⌝ }
+    ensures { λ r. ⌜ (r, now (places .exit), now (table .exit), now (out .exit))
+        ≡ exportedProve (settingsOf «set_size» «proof_size» «max_retries» «search_width» «dfs_bound» «x_high» «x_low»)
+        (lentAtEntry «data» ends marks indexes) (now (places .entry)) (now (table .entry)) (now (out .entry)) ⌝ }
 {
-    let p = Params {
+    let p = settings_of(
         set_size,
         proof_size,
         max_retries,
         search_width,
         dfs_bound,
-        x: U128 {
-            hi: x_high,
-            lo: x_low,
-        },
-    };
+        x_high,
+        x_low,
+    );
     let answer = centralized_telescope::prove(p, data, ends, marks, indexes, places, table);
     let n = numbers_of(answer);
     put_counters(n, out);
@@ -215,7 +221,8 @@ pub extern "C" fn alba_write_ticket(
     ticket: &mut [u8],
     out: &mut [u64],
 ) -> u32
-    ensures { λ r. ⌜ (r, now («ticket» .exit), now (out .exit)) ≡ exportedWriteTicket retry search (now («data» .entry)) (now (ends .entry)) (now (marks .entry)) (now (indexes .entry)) (now («ticket» .entry)) (now (out .entry)) ⌝ }
+    ensures { λ r. ⌜ (r, now («ticket» .exit), now (out .exit))
+        ≡ exportedWriteTicket retry search (lentAtEntry «data» ends marks indexes) (now («ticket» .entry)) (now (out .entry)) ⌝ }
 {
     let answer = centralized_telescope::write_ticket(
         RetryCounter(retry),
@@ -284,7 +291,8 @@ pub extern "C" fn alba_read_ticket(
     indexes: &mut [u64],
     out: &mut [u64],
 ) -> u32
-    ensures { λ r. ⌜ (r, now («data» .exit), now (ends .exit), now (marks .exit), now (indexes .exit), now (out .exit)) ≡ exportedReadTicket (now («ticket» .entry)) (now («data» .entry)) (now (ends .entry)) (now (marks .entry)) (now (indexes .entry)) (now (out .entry)) ⌝ }
+    ensures { λ r. ⌜ (r, lentAtExit «data» ends marks indexes, now (out .exit))
+        ≡ exportedReadTicket (now («ticket» .entry)) (lentAtEntry «data» ends marks indexes) (now (out .entry)) ⌝ }
 {
     let answer = centralized_telescope::read_ticket(ticket, data, ends, marks, indexes);
     let n = read_numbers(answer);
@@ -335,7 +343,8 @@ fn put_amounts(a: Amounts, out: &mut [u64])
     }
 }
 
-// Planning: 0 or the number. `out` takes places, bin-table numbers, steps and blocks, zeros with a refusal, where it has four numbers or more.
+// Planning: 0 or the number. `out` takes places, bin-table numbers, steps and blocks, zeros with a refusal, where it has four numbers or
+// more.
 #[no_mangle]
 pub extern "C" fn alba_plan(
     set_size: u64,
@@ -348,19 +357,19 @@ pub extern "C" fn alba_plan(
     longest: u64,
     out: &mut [u64],
 ) -> u32
-    ensures { λ r. ⌜ (r, now (out .exit)) ≡ exportedPlan (settingsOf «set_size» «proof_size» «max_retries» «search_width» «dfs_bound» «x_high» «x_low») longest (now (out .entry)) ⌝ }
+    ensures { λ r. ⌜ (r, now (out .exit))
+        ≡ exportedPlan (settingsOf «set_size» «proof_size» «max_retries» «search_width» «dfs_bound» «x_high» «x_low») longest
+        (now (out .entry)) ⌝ }
 {
-    let p = Params {
+    let p = settings_of(
         set_size,
         proof_size,
         max_retries,
         search_width,
         dfs_bound,
-        x: U128 {
-            hi: x_high,
-            lo: x_low,
-        },
-    };
+        x_high,
+        x_low,
+    );
     let answer = centralized_telescope::plan(p, longest);
     let n = plan_numbers(answer);
     put_amounts(n.amounts, out);

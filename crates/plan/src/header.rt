@@ -3,11 +3,11 @@ ghost use mathlib.Core.Path.{_≡_};
 ghost use Prim.Native.Nat.{_+_, min, max};
 use arguments::Figures;
 use arguments::say_argument;
-use arguments::say_refused;
 use centralized_telescope::Amounts;
 use centralized_telescope::Params;
 use centralized_telescope::Planned;
 use libc::STDOUT_FILENO;
+use outcomes::say_refused;
 use text::say::say;
 use text::say::say_figure;
 use text::say::say_number;
@@ -143,8 +143,8 @@ fn say_header(p: Params, a: Amounts, f: Figures, longest: u64, last: usize) {
     say(b"\n#endif\n");
 }
 
-// The header for settings, with the figures that they were made for, if any, and a longest data length, all from the arguments up to `last`.
-// What is refused gets only the refusal.
+// The header for settings, with the figures that they were made for, if any, and a longest data length, all from the arguments up to
+// `last`. What is refused gets only the refusal.
 pub fn say_planned(p: Params, f: Figures, longest: u64, last: usize) {
     let answer = centralized_telescope::plan(p, longest);
     match answer {

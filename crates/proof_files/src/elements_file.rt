@@ -1,11 +1,11 @@
 // Reading the file of elements into a list.
 ghost use mathlib.Core.Path.{_≡_};
 ghost use lib.ListN.{length};
-ghost use Rattle.text.specs.Lists.{Within};
+ghost use Rattle.proof_files.specs.Lists.{Within};
+use crate::elements;
+use crate::elements::Adding;
 use crate::report::say_of_file;
 use crate::report::say_of_line;
-use text::elements;
-use text::elements::Adding;
 use text::lines;
 use text::lines::Came;
 use text::lines::Line;
@@ -153,8 +153,8 @@ fn read_one(
     }
 }
 
-// Line by line, from the one after `last`, to the file's end or to a line that is refused. Nothing says that a file ends, so the turns count
-// down, from a number that no run uses up.
+// Line by line, from the one after `last`, to the file's end or to a line that is refused. Nothing says that a file ends, so the turns
+// count down, from a number that no run uses up.
 pub fn read_open(
     name: &[u8],
     fd: i32,

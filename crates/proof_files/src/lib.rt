@@ -1,13 +1,13 @@
-// What the programs for files of elements and of proofs share: the files' forms, and what is said of them.
+// What the programs for files of elements and of proofs share: elements as text, the files' forms, and what is said of them.
 //
 // No function that is seen outside asks anything of its caller.
 mod bytes_file;
+pub mod elements;
 mod elements_file;
 mod proof_file;
 mod report;
 mod rooms;
 
-pub use bytes_file::Fetched;
 pub use bytes_file::is_bytes_written;
 pub use bytes_file::read_bytes;
 pub use elements_file::Loaded;

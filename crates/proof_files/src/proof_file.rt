@@ -1,13 +1,12 @@
 // A proof's file: a line `proof R S`, then its elements, one to a line.
 ghost use mathlib.Core.Path.{_≡_};
-ghost use lib.ListN.{length};
-ghost use Rattle.text.specs.Lists.{Within};
+ghost use Rattle.proof_files.specs.Lists.{Within};
+use crate::elements;
 use crate::elements_file;
 use crate::elements_file::Loaded;
 use crate::elements_file::line_room;
 use crate::report::say_of_file;
 use crate::report::say_of_line;
-use text::elements;
 use text::lines;
 use text::lines::Came;
 use text::lines::Line;

@@ -8,9 +8,9 @@
 // file, made once a proof is found: a line `proof R S`, then its elements, in the same form. C is a whole number, or 0x and the 16
 // hexadecimal digits of a double's bits; X has 32 hexadecimal digits. There is room for 65,536 elements of 1,048,576 data bytes in all, and
 // for 524,288 data bytes in a proof: with the deepest search, that is what fits the system's ordinary stack of 8 MB.
-mod proof_file;
 mod repeats;
 mod search;
+mod write_and_verify;
 
 use arguments::Asked;
 use arguments::Reading;

@@ -2,11 +2,11 @@
 //
 // The file has an element to a line, so the first k lines are the list's first k elements.
 use centralized_telescope::Distinctness;
+use proof_files::elements;
 use proof_files::first_bytes;
 use proof_files::first_indexes;
 use proof_files::first_numbers;
 use proof_files::say_of_file;
-use text::elements;
 use text::say::say;
 use text::say::say_figure;
 

@@ -1,17 +1,17 @@
 // The search for a proof, and what came of it.
 ghost use mathlib.Core.Path.{_≡_};
 ghost use lib.ListN.{length};
-use crate::proof_file;
-use crate::proof_file::Counters;
 use crate::repeats;
+use crate::write_and_verify;
+use crate::write_and_verify::Counters;
 use centralized_telescope::Params;
 use centralized_telescope::ProofSearch;
 use centralized_telescope::proof_search_number;
 use libc::STDOUT_FILENO;
+use outcomes::say_outcome;
 use proof_files::first_numbers;
 use proof_files::is_there;
 use proof_files::say_of_file;
-use text::outcome::say_outcome;
 use text::say::say;
 use text::say::say_figure;
 
@@ -87,7 +87,7 @@ fn search(
             let counters = Counters { retry, search };
             let chain = first_numbers(&places, p.proof_size as usize);
             say_found(counters, count, chain);
-            proof_file::write_and_verify(p, proof, counters, chain, data, ends, marks, indexes);
+            write_and_verify::run(p, proof, counters, chain, data, ends, marks, indexes);
         }
         ProofSearch::NotFoundInBounds(count) => say_not_found(number, count),
         ProofSearch::NotFound(count) => say_not_found(number, count),

@@ -1,15 +1,15 @@
 -- Numbers read from bytes.
 use mathlib.Core.Path.{_≡_, refl, ap, _∙_}
 use mathlib.Core.List.{List}
-use Prim.Native.Nat.{ℕ, suc, _+_, _*_, _-_, _^_, _≤_, _<_, min}
+use Prim.Native.Nat.{ℕ, suc, _+_, _*_, _^_, _≤_, _<_, min}
 use native.Mathlib.Nat.{pow-suc, pow-le-pow-right}
 use native.Mathlib.Numerals.{add-one}
 use native.Mathlib.Omega.{arith}
 use lib.ListN.{length, take, drop, getD}
 use lib.Seq.{getD-drop}
-use Rattle.sampling.specs.BigEndian.{bigEndian}
+use Rattle.sampling.specs.core.BigEndian.{bigEndian}
 use Rattle.sampling.specs.laws.BigEndianLaws.{part-size, part-read}
-use Rattle.sampling.specs.Fips180.{word}
+use Rattle.sampling.specs.core.Fips180.{word}
 
 -- ---- one byte more: v is what the first i of them make, b the byte behind
 

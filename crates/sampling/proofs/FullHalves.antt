@@ -8,7 +8,7 @@ use native.Mathlib.Omega.{arith}
 use borrow.Author.Tests.{le-leb, lt-leb}
 use lib.Arith.{digits-lt}
 use lib.Dec.{leb}
-use Rattle.sampling.specs.Sample.{D, modNotPower}
+use Rattle.sampling.specs.core.Sample.{D, modNotPower}
 
 module _ (n hi lo : ℕ) where
   abbrev m : ℕ
@@ -39,7 +39,8 @@ module _ (n hi lo : ℕ) where
         go : (p d m : ℕ) → d + m ≡ p + (2 ^ 64 - 1) → m < 2 ^ 64 - 1 - lo → p + lo < d
         go p d m w h = omega arith
 
-  pub value-at-a-lower-half : 0 < n → n < 2 ^ 64 → hi < 2 ^ 64 - 1 → lo < 2 ^ 64 → (0, (hi * 2 ^ 64 + lo) % n) ≡ modNotPower (hi * 2 ^ 64 + lo) n
+  pub value-at-a-lower-half : 0 < n → n < 2 ^ 64 → hi < 2 ^ 64 - 1 → lo < 2 ^ 64
+      → (0, (hi * 2 ^ 64 + lo) % n) ≡ modNotPower (hi * 2 ^ 64 + lo) n
   value-at-a-lower-half N F H L =
       decided false
       (lt-leb (D n * n) (hi * 2 ^ 64 + lo)

@@ -8,9 +8,9 @@ use borrow.Author.Tests.{leb-true}
 use lib.Dec.{leb, ltb}
 use lib.ListN.{length, set, replicate, length-append, length-replicate, replicate-append-replicate}
 use lib.Seq.{sets, sets-eq, take-at, drop-at}
-use Rattle.sampling.specs.BigEndian.{bytesOf}
+use Rattle.sampling.specs.core.BigEndian.{bytesOf}
 use Rattle.sampling.specs.laws.BigEndianLaws.{length-bytesOf}
-use Rattle.sampling.specs.Fips180.{zeros, padding}
+use Rattle.sampling.specs.core.Fips180.{zeroBytes, padding}
 use Rattle.sampling.specs.laws.HashLaws.{blocks-append}
 use Rattle.sampling.specs.inner.LastBlocksInner.{inOnePiece, inTwoBlocks, hashValueFrom}
 use Rattle.sampling.specs.declared.sha256.State.{State}
@@ -18,7 +18,8 @@ use Rattle.sampling.specs.declared.sha256.State.{State}
 -- strings that are joined in one piece fit
 pub piece-fits : (a b c d : ℕ) → inOnePiece a b c d ≡ true → a + b + c + d ≤ 119
 unfolding inOnePiece
-piece-fits a b c d h = leb-true (a + b + c + d) 119 (and-eq-true-iff (ltb a 64 && ltb b 64 && ltb c 64 && ltb d 64) (leb (a + b + c + d) 119) .0 h .1)
+piece-fits a b c d h =
+    leb-true (a + b + c + d) 119 (and-eq-true-iff (ltb a 64 && ltb b 64 && ltb c 64 && ltb d 64) (leb (a + b + c + d) 119) .0 h .1)
 
 -- bytes in the place of as many
 in-place : (t x y s : List ℕ) (n : ℕ) → n ≡ length t → length x ≡ length s → sets (t ++ (x ++ y)) n s ≡ t ++ (s ++ y)
@@ -43,11 +44,17 @@ unfolding inTwoBlocks
 first-laid s le = laid [] s 0 refl (omega arith)
 
 pub four-laid : (a b c d : List ℕ) → length a + length b + length c + length d ≤ 128
-    → sets (sets (sets (sets (replicate 128 0) 0 a) (length a) b) (length a + length b) c) (length a + length b + length c) d ≡ inTwoBlocks (a ++ (b ++ (c ++ d)))
+    → sets (sets (sets (sets (replicate 128 0) 0 a) (length a) b) (length a + length b) c) (length a + length b + length c) d
+    ≡ inTwoBlocks (a ++ (b ++ (c ++ d)))
 four-laid a b c d le =
     let ab : length a + length b ≡ length (a ++ b) = sym (length-append a b) in
     let abc : length a + length b + length c ≡ length ((a ++ b) ++ c) = rw ab (sym (length-append (a ++ b) c)) in
-    rw (first-laid a (omega arith), laid a b (length a) refl (omega arith), laid (a ++ b) c _ ab (omega arith), laid ((a ++ b) ++ c) d _ abc (omega arith))
+    rw (
+      first-laid a (omega arith),
+      laid a b (length a) refl (omega arith),
+      laid (a ++ b) c _ ab (omega arith),
+      laid ((a ++ b) ++ c) d _ abc (omega arith),
+    )
     (ap inTwoBlocks (simp append-assoc))
 
 -- zeros behind it are there already
@@ -61,7 +68,7 @@ zeros-laid t k le =
 -- the padding behind it: its bit 1, and the length in bits at the end of a block
 pub padding-laid : (t : List ℕ) (f n : ℕ) → f ≡ length t → f ≤ 119 → n % 64 ≡ f % 64
     → sets (set (inTwoBlocks t) f 128) ((f + 72) / 64 * 64 - 8) (bytesOf 8 (8 * n)) ≡ inTwoBlocks (t ++ padding n)
-unfolding padding zeros
+unfolding padding zeroBytes
 padding-laid t f n e le r =
     let at : ℕ = (f + 72) / 64 * 64 - 8 in
     let bits : List ℕ = bytesOf 8 (8 * n) in
@@ -70,7 +77,11 @@ padding-laid t f n e le r =
     let most : List ℕ = one ++ replicate z 0 in
     let size-one : length one ≡ length t + 1 = length-append t (128 ∷ []) in
     let size : length most ≡ at = length-append one (replicate z 0) ∙ rw (length-replicate {A = ℕ} z 0) (omega arith) in
-    rw (laid t (128 ∷ []) f e (omega arith), ← zeros-laid one z (omega arith), laid most bits at (sym size) (omega (arith, length-bytesOf 8 (8 * n))))
+    rw (
+      laid t (128 ∷ []) f e (omega arith),
+      ← zeros-laid one z (omega arith),
+      laid most bits at (sym size) (omega (arith, length-bytesOf 8 (8 * n))),
+    )
     (ap inTwoBlocks (simp append-assoc))
 
 -- the blocks that are there whole are read as by themselves

@@ -10,7 +10,7 @@ use lib.Bits.{bitAnd, and-mask}
 use lib.Dec.{eqb, leb}
 use lib.Pow.{pow-mono, pow-lt, pow-pos}
 use lib.Count.{leadingZeros, leading-top}
-use Rattle.sampling.specs.Sample.{isPower}
+use Rattle.sampling.specs.core.Sample.{isPower}
 use Rattle.sampling.specs.laws.SampleLaws.{power-is, power-of}
 
 -- ---- the remainder

@@ -32,7 +32,8 @@ doubled a k n = sym (add-mod (a * 2 ^ k) (a * 2 ^ k) n) ∙ ap (λ (x : ℕ). x 
 
 next-digit : (x b d n : ℕ) → (x % n * b + d) % n ≡ (x * b + d) % n
 next-digit x b d n =
-    sym (ap (λ (k : ℕ). (k * b + d) % n) (sym (div-add-mod x n)) ∙ ap (λ (k : ℕ). k % n) whole-first ∙ mul-add-mod-self-left n (x / n * b) (x % n * b + d))
+    sym (ap (λ (k : ℕ). (k * b + d) % n) (sym (div-add-mod x n)) ∙ ap (λ (k : ℕ). k % n) whole-first
+    ∙ mul-add-mod-self-left n (x / n * b) (x % n * b + d))
   where
     whole-first : (n * (x / n) + x % n) * b + d ≡ n * (x / n * b) + (x % n * b + d)
     whole-first =
@@ -41,7 +42,9 @@ next-digit x b d n =
 
 -- two digits of 32 bits make the low half
 pub two-digits : (hi lo n : ℕ) → ((hi % n * 2 ^ 32 + lo / 2 ^ 32) % n * 2 ^ 32 + lo % 2 ^ 32) % n ≡ (hi * 2 ^ 64 + lo) % n
-two-digits hi lo n = next-digit (hi % n * 2 ^ 32 + lo / 2 ^ 32) (2 ^ 32) (lo % 2 ^ 32) n ∙ ap (λ (k : ℕ). k % n) (one-half (hi % n)) ∙ next-digit hi (2 ^ 64) lo n
+two-digits hi lo n =
+    next-digit (hi % n * 2 ^ 32 + lo / 2 ^ 32) (2 ^ 32) (lo % 2 ^ 32) n ∙ ap (λ (k : ℕ). k % n) (one-half (hi % n))
+    ∙ next-digit hi (2 ^ 64) lo n
   where
     one-half : (a : ℕ) → (a * 2 ^ 32 + lo / 2 ^ 32) * 2 ^ 32 + lo % 2 ^ 32 ≡ a * 2 ^ 64 + lo
     one-half a = omega arith

@@ -7,17 +7,17 @@ use native.Mathlib.Numerals.{add-one}
 use native.Mathlib.Omega.{arith}
 use lib.ListN.{length, getD, set, length-set}
 use lib.Seq.{getD-set-same, getD-set-other}
-use Rattle.sampling.specs.Fips180.{K, W, round, rounds}
+use Rattle.sampling.specs.core.Fips180.{K256, W, oneRound, rounds}
 use Rattle.sampling.specs.inner.HashInner.{AfterRounds, RoundsFrom}
 use Rattle.sampling.specs.declared.sha256.State.{State}
 
 -- before the first round
-pub no-round : (h : State) (M : List ℕ) → AfterRounds h M 0 h K
+pub no-round : (h : State) (M : List ℕ) → AfterRounds h M 0 h K256
 unfolding rounds
 no-round h M = record { variables = refl; size = refl; word = λ n l. absurd (omega arith); constant = λ n l g. refl }
 
 -- a round more: its word takes the place of its constant
-pub one-more : (M w : List ℕ) (t : ℕ) {v r : State} {x : ℕ} → t < 64 → x ≡ getD (W M 64) t 0 → r ≡ round v (getD w t 0) x
+pub one-more : (M w : List ℕ) (t : ℕ) {v r : State} {x : ℕ} → t < 64 → x ≡ getD (W M 64) t 0 → r ≡ oneRound v (getD w t 0) x
     → RoundsFrom M t (t + 1) v w r (set w t x)
 unfolding rounds
 one-more M w t {v} {r} {x} l e p h i = record { variables = variables; size = simp length-set (i .size); word = word; constant = constant }
@@ -32,7 +32,7 @@ one-more M w t {v} {r} {x} l e p h i = record { variables = variables; size = si
         go (yes q) = getD-set-other w t n x 0 (omega arith) ∙ i .word n q
         go (no q) = let z : n ≡ t = omega arith in rw (z, getD-set-same w t x 0 (omega (arith, i .size)), e)
 
-    constant : (n : ℕ) → t + 1 ≤ n → n < 64 → getD (set w t x) n 0 ≡ getD K n 0
+    constant : (n : ℕ) → t + 1 ≤ n → n < 64 → getD (set w t x) n 0 ≡ getD K256 n 0
     constant n g k = getD-set-other w t n x 0 (omega arith) ∙ i .constant n (omega arith) k
 
 module _ (M : List ℕ) (t : ℕ) where

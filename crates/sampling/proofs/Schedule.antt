@@ -7,7 +7,7 @@ use native.Mathlib.Omega.{arith}
 use borrow.Author.Tests.{lt-ltb, le-ltb}
 use lib.ListN.{length, getD, length-append, List·getD-append}
 use lib.Seq.{getD-at}
-use Rattle.sampling.specs.Fips180.{_⊞_, σ₀, σ₁, word, words, block, W, nextW}
+use Rattle.sampling.specs.core.Fips180.{_⊞_, σ₀, σ₁, word, words, block, W, nextW}
 use Rattle.sampling.specs.laws.WordLaws.{sum-of-four}
 
 -- ---- a list that grows at its end: the nth step adds x n
@@ -47,7 +47,8 @@ made w t = getD w (t - 16) 0 ⊞ getD w (t - 7) 0 ⊞ σ₀ (getD w (t - 15) 0) 
 
 pub nextW-made : (M w : List ℕ) (t : ℕ) → 16 ≤ t → nextW M w t ≡ made w t
 unfolding nextW
-nextW-made M w t g = rw (le-ltb t 16 g) (sum-of-four (σ₁ (getD w (t - 2) 0)) (getD w (t - 7) 0) (σ₀ (getD w (t - 15) 0)) (getD w (t - 16) 0))
+nextW-made M w t g =
+    rw (le-ltb t 16 g) (sum-of-four (σ₁ (getD w (t - 2) 0)) (getD w (t - 7) 0) (σ₀ (getD w (t - 15) 0)) (getD w (t - 16) 0))
 
 -- it asks for the words before t alone
 pub made-word : (M w : List ℕ) (t : ℕ) {x : ℕ} → 16 ≤ t → t < 64 → ((n : ℕ) → n < t → getD w n 0 ≡ getD (W M 64) n 0) → x ≡ nextW M w t

@@ -4,7 +4,8 @@ use mathlib.Core.Path.{_≡_, refl, sym, ap, _∙_, subst}
 use mathlib.Core.Bool.{Bool, true, false, not, cond}
 use mathlib.Core.Logic.{inl, inr}
 use Prim.Native.Nat.{ℕ, zero, suc, _+_, _-_, _*_, _/_, _%_, _^_, _≤_, _<_, min}
-use native.Mathlib.Nat.{le-trans, le-of-eq, lt-of-lt-of-le, lt-of-le-of-lt, mul-assoc, mul-right-comm, mul-le-mul-right, le-add-right, mod-lt, div-eq-of-lt, zero-add, add-zero, lt-irrefl, eq-or-lt-of-le}
+use native.Mathlib.Nat.{le-trans, le-of-eq, lt-of-lt-of-le, lt-of-le-of-lt, mul-assoc, mul-right-comm, mul-le-mul-right, le-add-right}
+use native.Mathlib.Nat.{mod-lt, div-eq-of-lt, zero-add, add-zero, lt-irrefl, eq-or-lt-of-le}
 use native.Mathlib.Omega.{arith}
 use lib.Dec.{T, leb, eqb, lit≤, not-T, eqb→eq}
 use lib.Pow.{pow-add, pow-pos, pow-mono, shl-lt, shl-shr, shr-shr, shl-exact, shr-le, split, field}
@@ -13,13 +14,14 @@ use lib.Ieee.Fits.{down-pos}
 use lib.Ieee.Bits.{ofBits-toBits}
 use lib.Ieee.Exact.{HasValue, odd-sign}
 use lib.Ieee.Nearest.{div-same}
-use Rattle.sampling.specs.Sample.{threshold}
+use Rattle.sampling.specs.later.Threshold.{threshold}
 
 -- ---- shifts
 
 module _ (q s w : ℕ) where
   shifted-down : s ≤ w → q / 2 ^ (w - s) ≡ q * 2 ^ s / 2 ^ w
-  shifted-down h = ap (λ (k : ℕ). k / 2 ^ (w - s)) (sym (shl-shr q s)) ∙ shr-shr (q * 2 ^ s) s (w - s) ∙ ap (λ (k : ℕ). q * 2 ^ s / 2 ^ k) (omega arith)
+  shifted-down h =
+      ap (λ (k : ℕ). k / 2 ^ (w - s)) (sym (shl-shr q s)) ∙ shr-shr (q * 2 ^ s) s (w - s) ∙ ap (λ (k : ℕ). q * 2 ^ s / 2 ^ k) (omega arith)
 
   shifted-up : w ≤ s → q * 2 ^ (s - w) ≡ q * 2 ^ s / 2 ^ w
   shifted-up h = sym (ap (λ (k : ℕ). q * 2 ^ k / 2 ^ w) back ∙ ap (λ (k : ℕ). k / 2 ^ w) (twice (s - w) w) ∙ shl-shr (q * 2 ^ (s - w)) w)
@@ -56,7 +58,8 @@ with-lead t h = omega arith
 -- fields from 1 to 2046 are read as the digits under a leading one
 normal : (s : Bool) (j t : ℕ) → suc j < 2047 → ofFields binary64 s (suc j) t ≡ odd 53 s (2 ^ 52 + t) j 1074
 unfolding ofFields
-normal s j t h = go (eqb (suc j) 2047) (not-T (eqb (suc j) 2047) (λ e. lt-irrefl 2047 (subst (λ (k : ℕ). k < 2047) (eqb→eq (suc j) 2047 e) h)))
+normal s j t h =
+    go (eqb (suc j) 2047) (not-T (eqb (suc j) 2047) (λ e. lt-irrefl 2047 (subst (λ (k : ℕ). k < 2047) (eqb→eq (suc j) 2047 e) h)))
   where
     go : (b : Bool) → T (not b) → cond b (cond (eqb t 0) (inf s) nan) (odd 53 s (2 ^ 52 + t) j 1074) ≡ odd 53 s (2 ^ 52 + t) j 1074
     go true n = absurd n
@@ -114,7 +117,8 @@ module _ (x q : ℕ) (Q : q < 2 ^ 53) where
 
   both : 947 < x → x < 1011 → q / 2 ^ (1011 - x) * 2 ^ 64 + q * 2 ^ (x - 947) % 2 ^ 64 ≡ cap (q * 2 ^ (x + 127) / 2 ^ 1074)
   both h g =
-      ap (λ (k : ℕ). k * 2 ^ 64 + q * 2 ^ (x - 947) % 2 ^ 64) (ap (λ (k : ℕ). q / 2 ^ k) (omega arith) ∙ shifted-down q (x - 947) 64 (omega arith))
+      ap (λ (k : ℕ). k * 2 ^ 64 + q * 2 ^ (x - 947) % 2 ^ 64)
+      (ap (λ (k : ℕ). q / 2 ^ k) (omega arith) ∙ shifted-down q (x - 947) 64 (omega arith))
       ∙ split (q * 2 ^ (x - 947)) 64
       ∙ fitting (omega arith) (omega arith)
 
@@ -130,7 +134,8 @@ module _ (x q : ℕ) (Q : q < 2 ^ 53) where
   capped : 2 ^ 52 ≤ q → 1023 ≤ x → 2 ^ 128 - 1 ≡ cap (q * 2 ^ (x + 127) / 2 ^ 1074)
   capped l h =
       over (q * 2 ^ (x - 947)) (2 ^ 128)
-      (le-trans (pow-mono {i = 128} {j = 52 + (x - 947)} (omega arith)) (le-trans (le-of-eq (pow-add 2 52 (x - 947))) (mul-le-mul-right (2 ^ (x - 947)) l)))
+      (le-trans (pow-mono {i = 128} {j = 52 + (x - 947)} (omega arith))
+      (le-trans (le-of-eq (pow-add 2 52 (x - 947))) (mul-le-mul-right (2 ^ (x - 947)) l)))
       ∙ ap cap (raised (omega arith))
 
 -- ---- of a double v, by its bits
@@ -164,7 +169,8 @@ module _ (v : Float) (F : T (fits binary64 v)) where
   pub low-half : 884 ≤ exponent → exponent ≤ 947 → 0 + digits / 2 ^ (947 - exponent) ≡ threshold v
   low-half l h = low-only exponent digits digits-fit h ∙ is-normal (omega arith) (omega arith)
 
-  pub both-halves : 947 < exponent → exponent < 1011 → digits / 2 ^ (1011 - exponent) * 2 ^ 64 + digits * 2 ^ (exponent - 947) % 2 ^ 64 ≡ threshold v
+  pub both-halves : 947 < exponent → exponent < 1011
+      → digits / 2 ^ (1011 - exponent) * 2 ^ 64 + digits * 2 ^ (exponent - 947) % 2 ^ 64 ≡ threshold v
   both-halves l h = both exponent digits digits-fit l h ∙ is-normal (omega arith) (omega arith)
 
   pub high-half : 1011 ≤ exponent → exponent < 1023 → digits * 2 ^ (exponent - 1011) % 2 ^ 64 * 2 ^ 64 + 0 ≡ threshold v
@@ -173,7 +179,8 @@ module _ (v : Float) (F : T (fits binary64 v)) where
   pub full-halves : T (not (isNan v)) → 1023 ≤ exponent → 2 ^ 128 - 1 ≡ threshold v
   full-halves n h = elim (eq-or-lt-of-le {n = exponent} {m = 2047} (omega (arith, mod-lt (bits / 2 ^ 52) (pow-pos 11)))) [
     | inl e ↦
-        let at : v ≡ ofFields binary64 (leb (2 ^ 63) bits) 2047 (bits % 2 ^ 52) = by-fields ∙ ap (λ (k : ℕ). ofFields binary64 (leb (2 ^ 63) bits) k (bits % 2 ^ 52)) e in
+        let at : v ≡ ofFields binary64 (leb (2 ^ 63) bits) 2047 (bits % 2 ^ 52) = by-fields
+        ∙ ap (λ (k : ℕ). ofFields binary64 (leb (2 ^ 63) bits) k (bits % 2 ^ 52)) e in
         sym (ap threshold at ∙ of-infinite (leb (2 ^ 63) bits) (bits % 2 ^ 52) (subst (λ (k : Float). T (not (isNan k))) at n))
     | inr g ↦ capped exponent digits digits-fit (le-add-right (2 ^ 52) (bits % 2 ^ 52)) h ∙ is-normal (omega arith) g
   ]

@@ -8,18 +8,20 @@ use native.Mathlib.Omega.{arith}
 use lib.ListN.{length, take, drop, getD, set, length-take, length-drop, length-append, drop-of-length-le}
 use lib.Seq.{take-length, drop-length, drop-drop, set-split, drop-at, take-at, length-take-le, sets, sets-eq}
 use Rattle.sampling.specs.laws.CommonLaws.{all-behind}
-use Rattle.sampling.specs.BigEndian.{bytesOf}
+use Rattle.sampling.specs.core.BigEndian.{bytesOf}
 use Rattle.sampling.specs.laws.BigEndianLaws.{length-bytesOf}
-use Rattle.sampling.specs.Fips180.{joined}
+use Rattle.sampling.specs.core.Fips180.{wordBytes}
 
 -- ---- a number
 
 -- nothing is written yet
 pub none-written : (k v : ℕ) (out : List ℕ) → length out ≡ k → bytesOf k v ++ drop k out ≡ bytesOf k v
-none-written k v out L = ap (λ (l : List ℕ). bytesOf k v ++ l) (ap (λ (i : ℕ). drop i out) (sym L) ∙ drop-length out) ∙ append-nil (bytesOf k v)
+none-written k v out L =
+    ap (λ (l : List ℕ). bytesOf k v ++ l) (ap (λ (i : ℕ). drop i out) (sym L) ∙ drop-length out) ∙ append-nil (bytesOf k v)
 
 -- one more byte is written, the lowest of what is left of the number
-before-last : (k r : ℕ) (out w : List ℕ) → k < length out → bytesOf (suc k) r ++ drop (suc k) out ≡ w → bytesOf k (r / 256) ++ drop k (set out k (r % 256)) ≡ w
+before-last : (k r : ℕ) (out w : List ℕ) → k < length out → bytesOf (suc k) r ++ drop (suc k) out ≡ w
+    → bytesOf k (r / 256) ++ drop k (set out k (r % 256)) ≡ w
 unfolding bytesOf
 before-last k r out w L e =
     let n : length (take k out) ≡ k = simp length-take (omega arith) in
@@ -40,7 +42,8 @@ all-written r out w e = e
 -- ---- a string
 
 -- a copy into the part that starts at a: p is what the part, n bytes long, holds then
-pub copied-in : (b s p : List ℕ) (a n : ℕ) → a + length s ≤ length b → n ≡ length b - a → p ≡ take (length s) s ++ drop (length s) (take n (drop a b))
+pub copied-in : (b s p : List ℕ) (a n : ℕ) → a + length s ≤ length b → n ≡ length b - a
+    → p ≡ take (length s) s ++ drop (length s) (take n (drop a b))
     → take a b ++ (p ++ drop n (drop a b)) ≡ sets b a s
 copied-in b s p a n le k e =
     rw (
@@ -57,11 +60,13 @@ copied-in b s p a n le k e =
 
 -- ---- words
 
-more : (ws : List ℕ) (n : ℕ) → n < length ws → joined (take (suc n) ws) ≡ joined (take n ws) ++ bytesOf 4 (getD ws n 0)
-unfolding joined
+more : (ws : List ℕ) (n : ℕ) → n < length ws → wordBytes (take (suc n) ws) ≡ wordBytes (take n ws) ++ bytesOf 4 (getD ws n 0)
+unfolding wordBytes
 more [] n h = absurd (not-suc-le-zero h)
 more (w ∷ ws) zero h = append-nil (bytesOf 4 w)
-more (w ∷ ws) (suc n) h = ap (λ (bs : List ℕ). bytesOf 4 w ++ bs) (more ws n (le-of-suc-le-suc h)) ∙ sym (append-assoc (bytesOf 4 w) (joined (take n ws)) (bytesOf 4 (getD ws n 0)))
+more (w ∷ ws) (suc n) h =
+    ap (λ (bs : List ℕ). bytesOf 4 w ++ bs) (more ws n (le-of-suc-le-suc h))
+    ∙ sym (append-assoc (bytesOf 4 w) (wordBytes (take n ws)) (bytesOf 4 (getD ws n 0)))
 
 -- bytes put in the place of as many leave the length as it was
 pub put-size : (d p part : List ℕ) (a k n x : ℕ) → length d ≡ n → a + k ≤ n → length part ≡ k → p ≡ bytesOf (length part) x
@@ -71,8 +76,9 @@ put-size d p part a k n x e le l q =
     simp (length-append, length-take, length-drop) (omega arith)
 
 -- the bytes p of one word more, x, behind those of n words
-pub put-word : (ws d p part rest : List ℕ) (n x : ℕ) → n < length ws → 4 * n ≤ length d → length part ≡ 4 → p ≡ bytesOf (length part) x → x ≡ getD ws n 0
-    → take (4 * n) d ≡ joined (take n ws) → take (4 * (n + 1)) (take (4 * n) d ++ (p ++ rest)) ≡ joined (take (n + 1) ws)
+pub put-word : (ws d p part rest : List ℕ) (n x : ℕ) → n < length ws → 4 * n ≤ length d → length part ≡ 4 → p ≡ bytesOf (length part) x
+    → x ≡ getD ws n 0
+    → take (4 * n) d ≡ wordBytes (take n ws) → take (4 * (n + 1)) (take (4 * n) d ++ (p ++ rest)) ≡ wordBytes (take (n + 1) ws)
 put-word ws d p part rest n x h k l e q i =
     let f : p ≡ bytesOf 4 (getD ws n 0) = rw (l, q) at e in
     let c : 4 * (n + 1) ≡ 4 * n + 4 = omega arith in

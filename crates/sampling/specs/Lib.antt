@@ -1,10 +1,6 @@
--- What the contracts of `sampling` cite, in reading order. What follows from it stands in laws/, what inner functions promise each other in
--- inner/: neither has to be believed.
-pub mod BigEndian
-pub mod Fips180
-pub mod Hash
-pub mod Hasher
-pub mod Sample
-pub mod Exports
+-- What the contracts of `sampling` cite, in reading order: the core, and what is read later. What follows from it stands in laws/,
+-- what inner functions promise each other in inner/: neither has to be believed.
+pub mod core
+pub mod later
 pub mod laws
 pub mod inner

@@ -1,5 +1,6 @@
 -- What follows from the definitions. A caller that cites these opens none of them.
 pub mod CommonLaws
+pub mod FirstNumberLaws
 pub mod WordLaws
 pub mod BigEndianLaws
 pub mod HashLaws

@@ -2,7 +2,7 @@
 ghost use mathlib.Core.Path.{_≡_};
 ghost use Prim.Native.Nat.{_^_, _<_, min};
 ghost use lib.ListN.{length};
-ghost use Rattle.sampling.specs.BigEndian.{bigEndian, bytesOf};
+ghost use Rattle.sampling.specs.core.BigEndian.{bigEndian, bytesOf};
 
 // How many of n bytes one number is made of: 8 are all that it has room for.
 fn at_most_eight(n: usize) -> usize
@@ -16,7 +16,8 @@ fn at_most_eight(n: usize) -> usize
 
 // The number that lent bytes make; of more than 8, the first 8.
 pub fn number_of(bytes: &[u8]) -> u64
-    ensures { λ r. ⌜ (r ≡ bigEndian (min (length (now (bytes .entry))) 8) (now (bytes .entry))) × (r < 256 ^ min (length (now (bytes .entry))) 8) ⌝ }
+    ensures { λ r. ⌜ (r ≡ bigEndian (min (length (now (bytes .entry))) 8) (now (bytes .entry)))
+        × (r < 256 ^ min (length (now (bytes .entry))) 8) ⌝ }
 {
     let k = at_most_eight(bytes.len());
     let mut v: u64 = 0;

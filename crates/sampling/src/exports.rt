@@ -2,8 +2,9 @@
 
 ghost use mathlib.Core.Path.{_≡_};
 ghost use lib.ListN.{length};
-ghost use Rattle.sampling.specs.Sample.{drawNumber};
-ghost use Rattle.sampling.specs.Exports.{exportedUniform, exportedBernoulli, exportedThreshold};
+ghost use Rattle.sampling.specs.core.Sample.{uniformBy};
+ghost use Rattle.sampling.specs.core.Exports.{exportedUniform, exportedBernoulli};
+ghost use Rattle.sampling.specs.later.Threshold.{exportedThreshold};
 use crate::big_endian;
 use crate::sample::Draw;
 use crate::sample::Threshold;
@@ -24,7 +25,7 @@ fn seed_of(h: &[u8]) -> [u8; 16]
 
 // The number of a draw's answer.
 fn draw_number(d: Draw) -> u32
-    ensures { λ r. ⌜ r ≡ drawNumber d .0 ⌝ }
+    ensures { λ r. ⌜ r ≡ uniformBy d .0 ⌝ }
 {
     match d {
         Draw::Value(_) => 0,
@@ -35,7 +36,7 @@ fn draw_number(d: Draw) -> u32
 
 // The value drawn, or 0.
 fn draw_value(d: Draw) -> u64
-    ensures { λ r. ⌜ r ≡ drawNumber d .1 ⌝ }
+    ensures { λ r. ⌜ r ≡ uniformBy d .1 ⌝ }
 {
     match d {
         Draw::Value(v) => v,

@@ -3,8 +3,9 @@
 ghost use mathlib.Core.Path.{_≡_};
 ghost use mathlib.Core.Bool.{true, false};
 ghost use Prim.Native.Nat.{_+_, _-_, _*_, _^_, _%_, _≤_, _<_};
-ghost use Rattle.sampling.specs.BigEndian.{bigEndian};
-ghost use Rattle.sampling.specs.Sample.{isPower, modNotPower, uniform, drawNumber, outsideUnit, threshold, thresholdOrRefusal, thresholdNumber, bernoulli, valueOf};
+ghost use Rattle.sampling.specs.core.BigEndian.{bigEndian};
+ghost use Rattle.sampling.specs.core.Sample.{isPower, modNotPower, uniform, uniformBy, bernoulli, valueOf};
+ghost use Rattle.sampling.specs.later.Threshold.{outsideUnit, threshold, converted, convertedBy};
 use crate::big_endian::number_of;
 
 // A number of 128 bits: hi * 2^64 + lo.
@@ -102,7 +103,7 @@ fn mod_u128(i: U128, n: u64) -> u64
 // whose high half is full, and whose low half is within m of full, comes to it.
 fn mod_not_power_of_2(i: U128, n: u64) -> Draw
     requires { ⌜ 0 < n ⌝ }
-    ensures { λ r. ⌜ drawNumber r ≡ modNotPower (valueOf i) n ⌝ }
+    ensures { λ r. ⌜ uniformBy r ≡ modNotPower (valueOf i) n ⌝ }
 {
     if i.hi == 0xffff_ffff_ffff_ffff {
         let m = mod_u128(
@@ -121,7 +122,7 @@ fn mod_not_power_of_2(i: U128, n: u64) -> Draw
 
 // A number below n, or no draw. Refused: n is 0.
 pub fn sample_uniform(h: [u8; 16], n: u64) -> Draw
-    ensures { λ r. ⌜ drawNumber r ≡ uniform h n ⌝ }
+    ensures { λ r. ⌜ uniformBy r ≡ uniform h n ⌝ }
 {
     if n == 0 {
         return Draw::Refused;
@@ -147,8 +148,8 @@ fn is_outside_unit(q: f64) -> bool
 }
 
 // X of q, exactly: floor(q * 2^128), at most 2^128 - 1. q is digits * 2^(exponent - 1075), so q * 2^128 is digits * 2^(exponent - 947),
-// with digits of 53 bits. By the exponent: up to 894 it is less than 1, a subnormal q too, and below 884 the shift would be 64 or more; up to
-// 947 it fits the low half; from 1011 on its low half is 0; at 1023 q is 1.
+// with digits of 53 bits. By the exponent: up to 894 it is less than 1, a subnormal q too, and below 884 the shift would be 64 or more; up
+// to 947 it fits the low half; from 1011 on its low half is 0; at 1023 q is 1.
 fn unit_threshold(q: f64) -> U128
     requires { ⌜ outsideUnit q ≡ false ⌝ }
     ensures { λ r. ⌜ valueOf r ≡ threshold q ⌝ }
@@ -185,7 +186,7 @@ fn unit_threshold(q: f64) -> U128
 
 // The converter: X of the probability q. Refused: q is no number from 0 to 1.
 pub fn threshold_of(q: f64) -> Threshold
-    ensures { λ r. ⌜ thresholdNumber r ≡ thresholdOrRefusal q ⌝ }
+    ensures { λ r. ⌜ convertedBy r ≡ converted q ⌝ }
 {
     if is_outside_unit(q) {
         return Threshold::Refused;

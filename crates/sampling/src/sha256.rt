@@ -4,14 +4,17 @@ ghost use mathlib.Core.List.{List, _++_};
 ghost use Prim.Native.Nat.{ℕ, _+_, _-_, _*_, _/_, _%_, _^_, _<_, _≤_};
 ghost use lib.ListN.{length, take, getD, set};
 ghost use lib.Seq.{sets};
-ghost use Rattle.sampling.specs.BigEndian.{bytesOf};
-ghost use Rattle.sampling.specs.Fips180.{_⊞_, ROTR, Ch, Maj, Σ₀, Σ₁, σ₀, σ₁};
-ghost use Rattle.sampling.specs.Fips180.{W, nextW, round, rounds, plus, compressed, word, block, H₀, padding, padded, digestOf};
-ghost use Rattle.sampling.specs.Hash.{hashed, hashedNumber};
+ghost use Rattle.sampling.specs.core.BigEndian.{bytesOf};
+ghost use Rattle.sampling.specs.core.Fips180.{_⊞_, ROTR, Ch, Maj, Σ₀, Σ₁, σ₀, σ₁, W, nextW, oneRound, rounds, plus, compressed, word};
+ghost use Rattle.sampling.specs.core.Fips180.{block, H₀, padding, padded, digestOf};
+ghost use Rattle.sampling.specs.core.Hash.{maxHashed, hashed, hashedBy};
 ghost use Rattle.sampling.specs.inner.HashInner.{RoundsFrom};
 ghost use Rattle.sampling.specs.inner.LastBlocksInner.{inOnePiece, inTwoBlocks, hashValueFrom};
-ghost use Rattle.sampling.specs.Hasher.{newHasher, absorbBytes, tooLong, absorbed, finished};
+ghost use Rattle.sampling.specs.later.Hasher.{newHasher, absorbBytes, tooLong, absorbed, finished};
 use crate::big_endian;
+
+// So many bytes are hashed at most: 2^29.
+pub const MAX_HASHED: usize = 0x2000_0000;
 
 // The hash value H, or the eight working variables a to h.
 pub struct State {
@@ -172,7 +175,7 @@ const K256: [u32; 64] = [
 
 // The working variables after a round. The sum t1 begins with what is known first.
 fn one_round(v: State, k: u32, w: u32) -> State
-    ensures { λ r. ⌜ r ≡ round v k w ⌝ }
+    ensures { λ r. ⌜ r ≡ oneRound v k w ⌝ }
 {
     let t1 = add(add(add(add(v.h, w), k), ch(v.e, v.f, v.g)), big_sigma1(v.e));
     let t2 = add(big_sigma0(v.a), maj(v.a, v.b, v.c));
@@ -469,7 +472,7 @@ fn with_string(m: [u8; 128], at: usize, s: &[u8]) -> [u8; 128]
 
 // Two blocks with the padding (5.1.1) of a message of len bytes behind the last `filled` of them, where zeros stand.
 fn pad(m: [u8; 128], filled: usize, len: usize) -> [u8; 128]
-    requires { ⌜ (filled ≤ 119) × (len ≤ 2 ^ 29) ⌝ }
+    requires { ⌜ (filled ≤ 119) × (len ≤ maxHashed) ⌝ }
     ensures { λ r. ⌜ r ≡ sets (set m filled 128) ((filled + 72) / 64 * 64 - 8) (bytesOf 8 (8 * len)) ⌝ }
 {
     let mut out = m;
@@ -481,7 +484,7 @@ fn pad(m: [u8; 128], filled: usize, len: usize) -> [u8; 128]
 // The first `filled` bytes of a block, the last of a message of len bytes, padded. What the block holds behind them isn't read:
 // in a hasher made by hand it may be anything.
 fn tail_of(block: [u8; 64], filled: usize, len: usize) -> [u8; 128]
-    requires { ⌜ (filled ≡ len % 64) × (len ≤ 2 ^ 29) ⌝ }
+    requires { ⌜ (filled ≡ len % 64) × (len ≤ maxHashed) ⌝ }
     ensures { λ r. ⌜ r ≡ inTwoBlocks (take filled block ++ padding len) ⌝ }
 {
     pad(with_string([0u8; 128], 0, &block[..filled]), filled, len)
@@ -505,7 +508,7 @@ fn joined(a: &[u8], b: &[u8], c: &[u8], d: &[u8]) -> [u8; 128]
 // The digest after the last `filled` bytes of a message, padded: one block, or two.
 fn last_blocks(h: State, m: &[u8; 128], filled: usize) -> Hashed
     requires { ⌜ filled ≤ 119 ⌝ }
-    ensures { λ r. ⌜ hashedNumber r ≡ (0, digestOf (hashValueFrom h (now (m .entry)) ((filled + 72) / 64))) ⌝ }
+    ensures { λ r. ⌜ hashedBy r ≡ (0, digestOf (hashValueFrom h (now (m .entry)) ((filled + 72) / 64))) ⌝ }
 {
     let mut s = compress(h, m, 0);
     if 56 <= filled {
@@ -586,7 +589,7 @@ impl Hasher {
         ensures { λ r. ⌜ r ≡ absorbed self (now (s .entry)) ⌝ }
     {
         let len = self.len;
-        if 0x2000_0000 < len || 0x2000_0000 - len < s.len() {
+        if MAX_HASHED < len || MAX_HASHED - len < s.len() {
             return too_long();
         }
         absorb_all(self, s)
@@ -594,10 +597,10 @@ impl Hasher {
 
     // 0 with the digest of all that was absorbed, or 9 with zeros.
     pub fn finish(self) -> Hashed
-        ensures { λ r. ⌜ hashedNumber r ≡ finished self ⌝ }
+        ensures { λ r. ⌜ hashedBy r ≡ finished self ⌝ }
     {
         let len = self.len;
-        if 0x2000_0000 < len {
+        if MAX_HASHED < len {
             return Hashed {
                 number: 9,
                 digest: [0u8; 32],
@@ -614,7 +617,7 @@ impl Hasher {
 // SHA-256 of four strings that make two blocks at most, joined in one piece.
 fn hash_short(a: &[u8], b: &[u8], c: &[u8], d: &[u8]) -> Hashed
     requires { ⌜ length (now a) + length (now b) + length (now c) + length (now d) ≤ 119 ⌝ }
-    ensures { λ r. ⌜ hashedNumber r ≡ hashed (now (a .entry) ++ (now (b .entry) ++ (now (c .entry) ++ now (d .entry)))) ⌝ }
+    ensures { λ r. ⌜ hashedBy r ≡ hashed (now (a .entry) ++ (now (b .entry) ++ (now (c .entry) ++ now (d .entry)))) ⌝ }
 {
     let m = joined(a, b, c, d);
     last_blocks(start(), &m, a.len() + b.len() + c.len() + d.len())
@@ -622,7 +625,7 @@ fn hash_short(a: &[u8], b: &[u8], c: &[u8], d: &[u8]) -> Hashed
 
 // SHA-256 of four strings joined: 0 with the digest, or 9 with zeros where they are over 2^29 bytes joined.
 pub fn sha256(a: &[u8], b: &[u8], c: &[u8], d: &[u8]) -> Hashed
-    ensures { λ r. ⌜ hashedNumber r ≡ hashed (now (a .entry) ++ (now (b .entry) ++ (now (c .entry) ++ now (d .entry)))) ⌝ }
+    ensures { λ r. ⌜ hashedBy r ≡ hashed (now (a .entry) ++ (now (b .entry) ++ (now (c .entry) ++ now (d .entry)))) ⌝ }
 {
     if fits(a.len(), b.len(), c.len(), d.len()) {
         return hash_short(a, b, c, d);

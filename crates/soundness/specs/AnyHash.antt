@@ -1,19 +1,19 @@
 -- Document 01, Rounds, Search and Verifier, with any function of strings in SHA-256's place. With SHA-256 it is `verdict`: `seldom_green`.
-use mathlib.Core.Bool.{Bool, false, cond}
+use mathlib.Core.Bool.{Bool, false, cond, not}
 use mathlib.Core.List.{List, [], _∷_, _++_}
 use mathlib.Core.Option.{Option, none, some}
 use Prim.Native.Nat.{ℕ}
 use lib.Dec.{eqb}
 use lib.ListN.{length, take}
-use Rattle.sampling.specs.BigEndian.{bytesOf}
-use Rattle.sampling.specs.Sample.{valueOf, bernoulli}
+use Rattle.sampling.specs.core.BigEndian.{bytesOf}
+use Rattle.sampling.specs.core.Sample.{valueOf, bernoulli}
 use Rattle.sampling.specs.declared.sample.U128.{U128}
 use Rattle.centralized_telescope.specs.declared.params.Params.{Params}
-use Rattle.centralized_telescope.specs.Lists.{firstNumber}
-use Rattle.centralized_telescope.specs.Params.{checked}
-use Rattle.centralized_telescope.specs.Elements.{Element, tail, Lent, elements, listCheck}
-use Rattle.centralized_telescope.specs.Rounds.{roundLabel, binLabel, proofLabel, drawnBelow, roundId}
-use Rattle.centralized_telescope.specs.Verifier.{ifSome, isBin, countersOut}
+use Rattle.sampling.specs.core.FirstNumber.{line, firstNumber}
+use Rattle.centralized_telescope.specs.core.Params.{checked}
+use Rattle.centralized_telescope.specs.core.Elements.{Element, tail, Lent, elements, listCheck}
+use Rattle.centralized_telescope.specs.core.Rounds.{roundLabel, binLabel, proofLabel, drawnBelow, roundId}
+use Rattle.centralized_telescope.specs.core.Verifier.{ifSome, isBin, countersOut}
 
 -- ---- what is hashed
 
@@ -58,7 +58,11 @@ module _ (hash : List ℕ → List ℕ) where
   -- 01, Verifier, the order
   unfoldable pub judgedWith : Params → ℕ → ℕ → List Element → ℕ
   judgedWith p R S es =
-      cond (eqb (length es) (p .«proof_size»)) (cond (countersOut p R S) 21 (cond (yesWith (p .x) (lastWith p R S es)) 0 22)) 20
+      firstNumber
+      (line 20 (not (eqb (length es) (p .«proof_size»)))
+      ∷ line 21 (countersOut p R S)
+      ∷ line 22 (not (yesWith (p .x) (lastWith p R S es)))
+      ∷ [])
 
   unfoldable pub verdictWith : Params → ℕ → ℕ → Lent → ℕ
   verdictWith p R S lent = firstNumber (checked p ∷ listCheck lent ∷ judgedWith p R S (elements lent) ∷ [])

@@ -4,8 +4,9 @@ use mathlib.Core.Bool.{Bool, true, cond}
 use mathlib.Core.List.{List, [], _∷_}
 use Prim.Native.Nat.{ℕ, zero, suc, _+_, _*_, _^_, _≤_, _<_}
 use lib.ListN.{length, getD}
-use Rattle.sampling.specs.BigEndian.{bytesOf}
-use Rattle.centralized_telescope.specs.Lists.{Each, sameBytes}
+use Rattle.sampling.specs.core.BigEndian.{bytesOf}
+use Rattle.centralized_telescope.specs.core.Lists.{Each}
+use Rattle.centralized_telescope.specs.later.Words.{sameBytes}
 
 -- ---- counting
 

@@ -6,15 +6,16 @@ use Prim.Native.Nat.{ℕ, _+_, _*_, _^_, _≤_, min}
 use lib.Dec.{eqb}
 use lib.ListN.{length}
 use lib.Ieee.{Float}
-use Rattle.sampling.specs.Fips180.{sha256}
-use Rattle.sampling.specs.Sample.{valueOf, xOf}
+use Rattle.sampling.specs.core.Fips180.{sha256}
+use Rattle.sampling.specs.core.Sample.{valueOf}
+use Rattle.sampling.specs.later.Threshold.{xOf}
 use Rattle.centralized_telescope.specs.declared.params.Params.{Params}
 use Rattle.centralized_telescope.specs.declared.params.SmallSettings.{SmallSettings}
-use Rattle.centralized_telescope.specs.Lists.{Each}
-use Rattle.centralized_telescope.specs.Params.{ceil, probability, smallCase}
-use Rattle.centralized_telescope.specs.Elements.{Element, tail, Lent, lentOf, elements}
-use Rattle.centralized_telescope.specs.Verifier.{verdict}
-use Rattle.centralized_telescope.specs.ProofSize.{Meets, InRange, SizeIs}
+use Rattle.centralized_telescope.specs.core.Lists.{Each}
+use Rattle.centralized_telescope.specs.later.SmallCase.{ceil, probability, smallCase}
+use Rattle.centralized_telescope.specs.core.Elements.{Element, tail, Lent, lentOf, elements, maxDataBytes}
+use Rattle.centralized_telescope.specs.core.Verifier.{verdict}
+use Rattle.centralized_telescope.specs.later.ProofSize.{Meets, InRange, SizeIs}
 use Rattle.soundness.specs.AnyHash.{verdictWith}
 use Rattle.soundness.specs.Functions.{OfBytes, howManyStrings, howManyDigests, hashOf, howManyTables}
 
@@ -22,7 +23,7 @@ use Rattle.soundness.specs.Functions.{OfBytes, howManyStrings, howManyDi
 
 -- 01, Elements: at most 4,096 bytes of data
 abbrev pub IsElement : Element → Type 0
-IsElement e = OfBytes (e .bytes) × (length (e .bytes) ≤ 4096)
+IsElement e = OfBytes (e .bytes) × (length (e .bytes) ≤ maxDataBytes)
 
 -- what is sent to the verifier: R, S and a list
 pub record Sent : Type 0 where
@@ -42,7 +43,7 @@ accepts hash p sent = eqb (verdictWith hash p (sent .retry) (sent .search) (sent
 
 -- the longest string that is hashed: a label, a digest, and a Tail, of 4,096 bytes of data and an index
 unfoldable pub longest : ℕ
-longest = 20 + 32 + 4096 + 8
+longest = 20 + 32 + maxDataBytes + 8
 
 -- Under how many of all functions what is sent is green. The elements are fixed before; the rest is chosen with the function at hand
 abbrev pub howManyGreen : Params → (List ℕ → Sent) → ℕ

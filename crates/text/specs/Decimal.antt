@@ -8,10 +8,14 @@ use lib.Dec.{leb, ltb}
 abbrev pub isDigit : ℕ → Bool
 isDigit c = leb 48 c && leb c 57
 
+-- the number that a digit makes of v, which stands before it
+abbrev pub withDigit : ℕ → ℕ → ℕ
+withDigit v c = 10 * v + (c - 48)
+
 -- the number that digits write after others that write v
 unfoldable pub valueAfter : ℕ → List ℕ → ℕ
 valueAfter v [] = v
-valueAfter v (c ∷ cs) = valueAfter (10 * v + (c - 48)) cs
+valueAfter v (c ∷ cs) = valueAfter (withDigit v c) cs
 
 unfoldable pub allDigits : List ℕ → Bool
 allDigits [] = true

@@ -1,3 +1,4 @@
 pub mod Decimal
 pub mod Hexadecimal
-pub mod Lists
+pub mod Words
+pub mod laws

@@ -2,7 +2,7 @@
 ghost use mathlib.Core.Path.{_≡_};
 ghost use Prim.Native.Nat.{_≤_, _<_};
 ghost use Rattle.io.specs.Counts.{Counts};
-ghost use Rattle.text.specs.Hexadecimal.{digitValue};
+ghost use Rattle.text.specs.Hexadecimal.{digitValue, isSixteen, sixteenValue};
 use crate::least;
 use crate::number::Number;
 use crate::number::unknown;
@@ -72,7 +72,9 @@ pub fn unhex(text: &[u8], out: &mut [u8]) -> Unhexed
 }
 
 // The number that 16 digits write. Not known: another count of digits, or another byte among them.
-pub fn sixteen_digits(text: &[u8]) -> Number {
+pub fn sixteen_digits(text: &[u8]) -> Number
+    ensures { λ r. ⌜ (r .known ≡ isSixteen (now (text .entry))) × (r .value ≡ sixteenValue (now (text .entry))) ⌝ }
+{
     if text.len() != 16 {
         return unknown();
     }
@@ -83,7 +85,7 @@ pub fn sixteen_digits(text: &[u8]) -> Number {
         if 15 < d {
             return unknown();
         }
-        // Never so of 16 digits; the test spares a proof of it.
+        // Never so of 16 digits; with the test each step by itself is seen to fit.
         if 0x0fff_ffff_ffff_ffff < value {
             return unknown();
         }

@@ -1,6 +1,8 @@
 // An open file read by its lines, through a lent buffer that a line and its end fit into.
-ghost use Prim.Native.Nat.{_-_, _≤_};
-ghost use lib.ListN.{length};
+ghost use mathlib.Core.Path.{_≡_};
+ghost use Prim.Native.Nat.{_≤_, _<_};
+ghost use lib.ListN.{length, take, drop};
+use crate::input;
 use crate::least;
 
 // What came of reading a line.
@@ -22,17 +24,16 @@ pub struct Line {
     pub filled: usize,
 }
 
-struct More {
-    failed: bool,
-    filled: usize,
-}
-
 // Before the first line, which has the number 1.
-pub fn none_yet() -> Line {
+pub fn none_yet() -> Line
+    ensures { λ r. ⌜ (r .number ≡ 0) × (r .filled ≡ 0) ⌝ }
+{
     no_line(Came::End, 0)
 }
 
-fn no_line(came: Came, number: u64) -> Line {
+fn no_line(came: Came, number: u64) -> Line
+    ensures { λ r. ⌜ (r .number ≡ number) × (r .start ≡ 0) × (r .end ≡ 0) × (r .next ≡ 0) × (r .filled ≡ 0) ⌝ }
+{
     Line {
         came,
         number,
@@ -44,7 +45,9 @@ fn no_line(came: Came, number: u64) -> Line {
 }
 
 // The line at these places of the buffer.
-pub fn text_of(buf: &[u8], line: Line) -> &[u8] {
+pub fn text_of(buf: &[u8], line: Line) -> &[u8]
+    ensures { λ r. ⌜ now r ≡ drop (line .start) (take (line .end) (now (buf .entry))) ⌝ }
+{
     let end = least(line.end, buf.len());
     let start = least(line.start, end);
     &buf[start..end]
@@ -62,24 +65,6 @@ fn move_to_front(buf: &mut [u8], from: usize, to: usize)
     }
 }
 
-// One read into what is left of the buffer.
-fn read_more(fd: i32, buf: &mut [u8], filled: usize) -> More
-    requires { ⌜ filled ≤ length (now buf) ⌝ }
-    ensures { λ r. ⌜ (filled ≤ r .filled) × (r .filled ≤ length (now (buf .entry))) ⌝ }
-{
-    let got = libc::read(fd, &mut buf[filled..]);
-    if got < 0 {
-        return More {
-            failed: true,
-            filled,
-        };
-    }
-    More {
-        failed: false,
-        filled: filled + io::count(got, &buf[filled..]),
-    }
-}
-
 // Where the part from `from` to `to` has its first line end, or `to`.
 fn line_end(buf: &[u8], from: usize, to: usize) -> usize
     requires { ⌜ (from ≤ to) × (to ≤ length (now buf)) ⌝ }
@@ -91,28 +76,26 @@ fn line_end(buf: &[u8], from: usize, to: usize) -> usize
 // The line at the front of the buffer, of which the first `part` bytes are read and have no line end.
 fn read_line(fd: i32, buf: &mut [u8], part: usize, number: u64) -> Line
     requires { ⌜ part ≤ length (now buf) ⌝ }
+    ensures { λ r. ⌜ (r .start ≤ r .end) × (r .end ≤ r .next) × (r .next ≤ r .filled) × (r .filled ≤ length (now (buf .entry))) ⌝ }
 {
-    let mut filled = part;
-    while filled < buf.len() {
-        let more = read_more(fd, buf, filled);
-        if more.failed {
-            return no_line(Came::Unreadable, number);
-        }
-        let to = more.filled;
-        if to == filled {
-            return last_line(filled, number);
-        }
-        let end = line_end(buf, filled, to);
-        if end < to {
-            return whole_line(number, 0, end, to);
-        }
-        filled = to;
+    let read = input::fill(fd, buf, part);
+    if read.failed {
+        return no_line(Came::Unreadable, number);
     }
-    no_line(Came::TooLong, number)
+    let end = line_end(buf, part, read.len);
+    if end < read.len {
+        return whole_line(number, 0, end, read.len);
+    }
+    if read.len == buf.len() {
+        return no_line(Came::TooLong, number);
+    }
+    last_line(read.len, number)
 }
 
 // What stands at the front at the file's end: a line without a line end, or nothing.
-fn last_line(filled: usize, number: u64) -> Line {
+fn last_line(filled: usize, number: u64) -> Line
+    ensures { λ r. ⌜ (r .start ≡ 0) × (r .end ≡ filled) × (r .next ≡ filled) × (r .filled ≡ filled) ⌝ }
+{
     if filled == 0 {
         return no_line(Came::End, number);
     }
@@ -127,7 +110,8 @@ fn last_line(filled: usize, number: u64) -> Line {
 }
 
 fn whole_line(number: u64, start: usize, end: usize, filled: usize) -> Line
-    requires { ⌜ end ≤ filled - 1 ⌝ }
+    requires { ⌜ (start ≤ end) × (end < filled) ⌝ }
+    ensures { λ r. ⌜ (r .start ≤ r .end) × (r .end ≤ r .next) × (r .next ≤ r .filled) × (r .filled ≡ filled) ⌝ }
 {
     Line {
         came: Came::Line,
@@ -148,7 +132,9 @@ fn number_after(number: u64) -> u64 {
 }
 
 // The line after `last`, read from the file as far as the buffer doesn't have it.
-pub fn next(fd: i32, buf: &mut [u8], last: Line) -> Line {
+pub fn next(fd: i32, buf: &mut [u8], last: Line) -> Line
+    ensures { λ r. ⌜ (r .start ≤ r .end) × (r .end ≤ r .next) × (r .next ≤ r .filled) × (r .filled ≤ length (now (buf .entry))) ⌝ }
+{
     let number = number_after(last.number);
     let filled = least(last.filled, buf.len());
     let from = least(last.next, filled);

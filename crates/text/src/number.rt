@@ -1,9 +1,9 @@
 // Numbers written in decimal.
 ghost use mathlib.Core.Path.{_≡_};
 ghost use mathlib.Core.Bool.{false, cond, _&&_};
-ghost use Prim.Native.Nat.{_+_, _-_, _*_, _^_};
+ghost use Prim.Native.Nat.{_^_};
 ghost use lib.Dec.{ltb};
-ghost use Rattle.text.specs.Decimal.{isDigit, isDecimal, decimalValue};
+ghost use Rattle.text.specs.Decimal.{isDigit, withDigit, isDecimal, decimalValue};
 
 // What a text writes: the number, where it writes one.
 pub struct Number {
@@ -22,7 +22,7 @@ pub fn unknown() -> Number
 
 // 10 times the value, and a digit more. Not known: no decimal digit, or over 2^64 - 1.
 fn with_digit(value: u64, c: u8) -> Number
-    ensures { λ r. ⌜ (r .known ≡ (isDigit c && ltb (10 * value + (c - 48)) (2 ^ 64))) × (r .value ≡ cond (r .known) (10 * value + (c - 48)) 0) ⌝ }
+    ensures { λ r. ⌜ (r .known ≡ (isDigit c && ltb (withDigit value c) (2 ^ 64))) × (r .value ≡ cond (r .known) (withDigit value c) 0) ⌝ }
 {
     if c < b'0' {
         return unknown();

@@ -3,9 +3,9 @@
 //     ticket write PROOF TICKET
 //     ticket read TICKET PROOF
 //
-// PROOF is a file as `prove_and_verify` writes it: a line `proof R S`, then the proof's elements, one to a line. TICKET has the ticket's blocks
-// and nothing else. The second file is a new one, made once nothing is refused any more. There is room for 65,536 elements with 1,048,576
-// data bytes in all, and so for 3,771 blocks, within the system's ordinary stack of 8 MB.
+// PROOF is a file as `prove_and_verify` writes it: a line `proof R S`, then the proof's elements, one to a line. TICKET has the ticket's
+// blocks and nothing else. The second file is a new one, made once nothing is refused any more. There is room for 65,536 elements with
+// 1,048,576 data bytes in all, and so for 3,771 blocks, within the system's ordinary stack of 8 MB.
 mod convert;
 mod report;
 

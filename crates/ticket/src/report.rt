@@ -1,7 +1,7 @@
 // What the program says.
-use arguments::say_refused;
 use centralized_telescope::Refusal;
 use centralized_telescope::stated_blocks;
+use outcomes::say_refused;
 use proof_files::CountersLine;
 use text::say::say;
 use text::say::say_figure;

@@ -1,4 +1,5 @@
-// The stored answers of the Rust, on distinctness of its definition, asked of the library again. The list's first lines say what the others mean.
+// The stored answers of the Rust, on distinctness of its definition, asked of the library again. The list's first lines say what the others
+// mean.
 ghost use Prim.Native.Nat.{_≤_};
 ghost use lib.ListN.{length};
 use crate::ask;
@@ -8,8 +9,8 @@ use crate::said;
 use crate::said::Said;
 use crate::say::say_counts;
 use crate::say::say_line;
-use text::elements;
-use text::elements::Adding;
+use proof_files::elements;
+use proof_files::elements::Adding;
 use text::least;
 use text::lines;
 use text::lines::Came;
@@ -318,8 +319,8 @@ fn run_open(
     false
 }
 
-// The same of a list by its name. There is room for a line, the elements under way and an answer; 407 elements and some 7,200 data bytes are
-// the most at once in answers.txt.
+// The same of a list by its name. There is room for a line, the elements under way and an answer; 407 elements and some 7,200 data bytes
+// are the most at once in answers.txt.
 fn run(name: &[u8], counts: &mut [u64]) -> bool {
     let fd = file::open(name);
     if fd < 0 {

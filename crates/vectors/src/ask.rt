@@ -1,6 +1,11 @@
 // A stored question asked of the library; what it answers, as text. A question is a line up to its ` =`.
+ghost use mathlib.Core.Path.{_≡_};
 ghost use Prim.Native.Nat.{_≤_};
+ghost use lib.Ieee.{ofBits, binary64};
 ghost use lib.ListN.{length};
+ghost use Rattle.text.specs.Decimal.{isDecimal, decimalValue};
+ghost use Rattle.text.specs.Hexadecimal.{isSixteen, sixteenValue};
+ghost use Rattle.text.specs.Words.{firstWord, behindWords};
 use crate::said;
 use crate::said::Said;
 use centralized_telescope::SmallCase;
@@ -24,11 +29,17 @@ struct KnownHash {
     bytes: [u8; 16],
 }
 
-pub fn read_number(question: &[u8], n: usize) -> Number {
+pub fn read_number(question: &[u8], n: usize) -> Number
+    ensures { λ r. ⌜ r .known ≡ isDecimal (firstWord (behindWords n (now (question .entry)))) ⌝ }
+    ensures { λ r. ⌜ r .value ≡ decimalValue (firstWord (behindWords n (now (question .entry)))) ⌝ }
+{
     text::number::decimal(words::word(question, n))
 }
 
-pub fn read_double(question: &[u8], n: usize) -> KnownDouble {
+pub fn read_double(question: &[u8], n: usize) -> KnownDouble
+    ensures { λ r. ⌜ r .known ≡ isSixteen (firstWord (behindWords n (now (question .entry)))) ⌝ }
+    ensures { λ r. ⌜ r .value ≡ ofBits binary64 (sixteenValue (firstWord (behindWords n (now (question .entry))))) ⌝ }
+{
     let bits = text::hex::sixteen_digits(words::word(question, n));
     KnownDouble {
         known: bits.known,

@@ -15,9 +15,11 @@ struct Cuts {
 
 // A number up to `most` that goes with x.
 fn up_to(x: usize, most: usize) -> usize
-    requires { ⌜ most ≤ 512 ⌝ }
     ensures { λ r. ⌜ r ≤ most ⌝ }
 {
+    if x <= most {
+        return x;
+    }
     x % (most + 1)
 }
 
@@ -37,7 +39,6 @@ fn cuts_at(a: usize, b: usize, c: usize, len: usize) -> Cuts
 // Cuts that go with the line's number. It is scrambled first: where line n has a message of n - 1 bytes, n itself would
 // always give the same cut.
 fn cuts_by(number: usize, len: usize) -> Cuts
-    requires { ⌜ len ≤ 512 ⌝ }
     ensures { λ r. ⌜ (r .a ≤ r .b) × (r .b ≤ r .c) × (r .c ≤ len) ⌝ }
 {
     let x = number % 4096 * 40503 % 65536;
@@ -53,7 +54,6 @@ fn cuts_by(number: usize, len: usize) -> Cuts
 // The cuts of a way. A string that holds all, before and after empty ones; quarters; single bytes; the edges of the first
 // block; whole blocks; and cuts that vary.
 fn cuts_of(way: usize, number: usize, len: usize) -> Cuts
-    requires { ⌜ len ≤ 512 ⌝ }
     ensures { λ r. ⌜ (r .a ≤ r .b) × (r .b ≤ r .c) × (r .c ≤ len) ⌝ }
 {
     match way {
@@ -99,7 +99,6 @@ pub fn one_if_equal(hash: Hashed, wanted: &[u8]) -> usize
 }
 
 fn equal_cuts(message: &[u8], wanted: &[u8], number: usize) -> usize
-    requires { ⌜ length (now message) ≤ 512 ⌝ }
     ensures { λ r. ⌜ r ≤ 7 ⌝ }
 {
     let mut equal = 0;
@@ -114,7 +113,6 @@ fn equal_cuts(message: &[u8], wanted: &[u8], number: usize) -> usize
 
 // In how many of the eight ways the message has the digest wanted.
 pub fn equal_ways(message: &[u8], wanted: &[u8], number: usize) -> usize
-    requires { ⌜ length (now message) ≤ 512 ⌝ }
     ensures { λ r. ⌜ r ≤ 8 ⌝ }
 {
     equal_cuts(message, wanted, number) + one_if_equal(hash_by_bytes(message), wanted)

@@ -4,8 +4,9 @@ use super::{bits, Answers, DISTINCT, PROVE, VERIFY};
 use crate::compare::planted::{self, PairData, Planting, PLANTS, SHAPES};
 use crate::compare::searches::{self, Outcome};
 use crate::compare::verdicts::{self, Claim};
-use crate::compare::{limits, rules, Checked};
-use crate::threshold::Threshold::OfQ;
+use crate::compare::{limits, Checked};
+use crate::model::rules;
+use crate::model::threshold::Threshold::OfQ;
 use crate::{ffi, ffi::Settings, list::List, original, rng::Rng};
 
 /// The completeness of the realistic settings.

@@ -1,5 +1,5 @@
 //! A list of cases with the answers of the original Rust, on distinctness with those of the request's words (`distinctness` of
-//! compare/rules.rs), for a program that replays them where no Rust is at hand. The library is not asked.
+//! model/rules.rs), for a program that replays them where no Rust is at hand. The library is not asked.
 
 mod elements;
 mod samplers;

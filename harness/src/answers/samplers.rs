@@ -2,7 +2,7 @@
 
 use super::{bits, Answers, BERNOULLI, SMALL, UNIFORM};
 use crate::compare::{bernoulli, small_case, uniform};
-use crate::{ffi, threshold};
+use crate::{ffi, model::threshold};
 
 pub fn write(answers: &mut Answers) {
     write_uniform(answers);

@@ -14,8 +14,8 @@ mod tickets;
 use crate::{
     args::{Bench, AGAIN},
     ffi,
+    model::threshold::{self, Threshold::OfQ},
     rng::Rng,
-    threshold::{self, Threshold::OfQ},
 };
 use measure::{in_turns, Measured, Work, ROUNDS};
 use sha2::{Digest, Sha256};

@@ -1,9 +1,9 @@
-//! The proof size from security figures: where no size serves, which takes longest, at the greatest size, and of the Rust's own example; each
-//! against the harness's walk over the same sizes in whole numbers (src/proof_size.rs).
+//! The proof size from security figures: where no size serves, which takes longest, at the greatest size, and of the Rust's own example;
+//! each against the harness's walk over the same sizes in whole numbers (src/model/proof_size.rs).
 
 use super::measure::{in_turns, Work};
 use super::row;
-use crate::proof_size::{last, meets, walk, Figures, Log2E, MOST, MOST_C, MOST_N, MOST_S};
+use crate::model::proof_size::{last, meets, walk, Figures, Log2E, MOST, MOST_C, MOST_N, MOST_S};
 use crate::{ffi, ffi::NO_SIZE};
 use std::hint::black_box;
 

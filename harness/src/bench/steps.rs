@@ -4,7 +4,7 @@
 use super::measure::{timed, Measured};
 use super::row;
 use super::searches::{against, any_elements, SET_SIZE};
-use crate::{ffi, ffi::Settings, original, rng::Rng, threshold::Threshold::OfQ};
+use crate::{ffi, ffi::Settings, model::threshold::Threshold::OfQ, original, rng::Rng};
 use std::hint::black_box;
 
 /// How long the chains get. With as many elements as bins each has one extension on the average: few come to their full length, and one

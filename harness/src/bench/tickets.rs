@@ -1,4 +1,4 @@
-//! Writer and reader of tickets against the harness's own (src/ticket.rs), over the same lists and into the same buffers. Both clear
+//! Writer and reader of tickets against the harness's own (src/model/ticket.rs), over the same lists and into the same buffers. Both clear
 //! them before each call, and that is within the time.
 
 use super::measure::{in_turns, Work};
@@ -6,9 +6,9 @@ use super::{row, SHA2};
 use crate::{
     ffi,
     list::List,
+    model::ticket,
+    model::ticket::{Proof, Told, BLOCK},
     rng::Rng,
-    ticket,
-    ticket::{Proof, Told, BLOCK},
 };
 use std::hint::black_box;
 

@@ -2,7 +2,7 @@
 //! against i < X.
 
 use super::{hex, threshold, Answered, Checked, Run, Shifted};
-use crate::threshold::{halves, whole};
+use crate::model::threshold::{halves, whole};
 use crate::{ffi, rng::Rng};
 
 pub fn run(run: &mut Run, cases: u64) -> Checked {

@@ -1,17 +1,17 @@
 //! The number of blocks that a ticket states: another than there are blocks, or in another place; blocks less or more than are stated; and
-//! tickets of the first layout, which stated none. What is due is the answer of the harness's own reader (src/ticket.rs). Where the
+//! tickets of the first layout, which stated none. What is due is the answer of the harness's own reader (src/model/ticket.rs). Where the
 //! request's words leave but one answer, it is also looked at that this reader gives it.
 
 use super::blocks::{self, Block};
-use super::rules::BYTES;
 use super::tickets::{self, Rooms};
 use super::{changed_tickets, searches, Checked, Run};
+use crate::model::rules::BYTES;
 use crate::{
     ffi,
     list::List,
+    model::ticket,
+    model::ticket::{in_blocks, Proof, BLOCK, BODY, HEAD, STATED},
     rng::Rng,
-    ticket,
-    ticket::{in_blocks, Proof, BLOCK, BODY, HEAD, STATED},
 };
 
 /// Tickets in a block of cases, and so many blocks at least, in which every kind comes.
@@ -302,7 +302,7 @@ mod tests {
     fn lists_of_many_blocks() {
         for count in [1, 2, 3, 8, 9, 255, 256, 257] {
             let list = list_of_blocks(count);
-            assert_eq!((ticket::count_blocks(&list), super::super::rules::list(&list)), (count, Ok(())));
+            assert_eq!((ticket::count_blocks(&list), crate::model::rules::list(&list)), (count, Ok(())));
         }
     }
 }

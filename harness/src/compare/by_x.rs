@@ -5,8 +5,9 @@ use super::bernoulli::ENDS;
 use super::blocks::{self, Block};
 use super::searches::{self, Outcome};
 use super::verdicts::Claim;
-use super::{bernoulli, chains, limits, shown_list, Checked, Run};
-use crate::threshold::Threshold::Alone;
+use super::{bernoulli, limits, shown_list, Checked, Run};
+use crate::model::chains;
+use crate::model::threshold::Threshold::Alone;
 use crate::{ffi::Settings, list::List, rng::Rng};
 
 /// Lists of a block, and about how many searches there are of one.
@@ -22,8 +23,8 @@ pub fn run(run: &mut Run, cases: u64) -> Checked {
     })
 }
 
-/// A list searched with a q, by the Rust and by the specification's words; then with the X's at the ends of its words, with some of any size, and with those
-/// around the number of the proof that was found, where the outcome turns.
+/// A list searched with a q, by the Rust and by the specification's words; then with the X's at the ends of its words, with some of any
+/// size, and with those around the number of the proof that was found, where the outcome turns.
 fn of_list(block: &mut Block) -> Checked {
     let settings = searches::any_settings(&mut block.rng);
     let list = searches::any_list(&mut block.rng, settings.set_size as usize);

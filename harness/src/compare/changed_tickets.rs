@@ -3,9 +3,9 @@
 use super::block_counts;
 use crate::{
     list::List,
+    model::ticket,
+    model::ticket::{in_blocks, Proof, BLOCK, BODY, HEAD, STATED},
     rng::Rng,
-    ticket,
-    ticket::{in_blocks, Proof, BLOCK, BODY, HEAD, STATED},
 };
 
 /// Where the fields of an element stand among the joined bodies.
@@ -211,7 +211,8 @@ mod tests {
                 }
             }
         }
-        // A mark over 1, a byte in the filling, a block of zeros at the end, a wrong number of blocks and, with this R, none are never a ticket's.
+        // A mark over 1, a byte in the filling, a block of zeros at the end, a wrong number of blocks and, with this R, none are never a
+        // ticket's.
         assert!([4, 12, 15, 21, 22].iter().all(|kind| refused[*kind] == 200), "{refused:?}");
         // An index, data, R and S can be others.
         assert!([10, 11, 20].iter().all(|kind| refused[*kind] == 0), "{refused:?}");

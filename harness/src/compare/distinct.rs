@@ -1,10 +1,10 @@
-//! `alba_check_distinct` against the request's words (`distinctness` of rules.rs). The Rust's `check_distinct` goes by data alone, so it isn't
-//! asked.
+//! `alba_check_distinct` against the request's words (`distinctness` of model/rules.rs). The Rust's `check_distinct` goes by data alone, so
+//! it isn't asked.
 
 use super::blocks::{self, Block};
 use super::planted::{self, Made, Planting, NUMBERS, PLANTS, SHAPES};
-use super::rules::{self, BYTES, ELEMENTS};
 use super::{faults, shown_list, verdicts, Answered, Checked, Run};
+use crate::model::rules::{self, BYTES, ELEMENTS};
 use crate::{ffi, list::List};
 
 /// Up to this length each pair is planted in each shape.

@@ -4,18 +4,19 @@
 use super::parameters::Args;
 use super::searches::Outcome;
 use super::verdicts::{self, Claim};
-use super::{chains, plan, rules, searches, small_case, threshold, verifier_refusals};
+use super::{plan, searches, small_case, threshold, verifier_refusals};
+use crate::model::{chains, rules};
 use crate::{
     ffi,
     ffi::{Listed, Rooms, Settings},
     list::{List, Written},
-    proof_size,
-    proof_size::Figures,
+    model::proof_size,
+    model::proof_size::Figures,
+    model::threshold::Threshold::{Alone, OfQ},
+    model::threshold::{halves, whole},
+    model::ticket,
+    model::ticket::Proof,
     rng::Rng,
-    threshold::Threshold::{Alone, OfQ},
-    threshold::{halves, whole},
-    ticket,
-    ticket::Proof,
 };
 use sha2::{Digest, Sha256};
 

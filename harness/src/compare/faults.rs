@@ -1,6 +1,6 @@
 //! Faults put into settings and lists that had none.
 
-use super::rules::{BYTES, ELEMENTS, MOST};
+use crate::model::rules::{BYTES, ELEMENTS, MOST};
 use crate::{ffi::Settings, list::List, rng::Rng};
 
 /// A number over the limit: the next one, one of the highest, or any.

@@ -1,4 +1,5 @@
-//! A place lent to be written: inside a larger buffer of random bytes or numbers, so that everything written is seen, also outside the place.
+//! A place lent to be written: inside a larger buffer of random bytes or numbers, so that everything written is seen, also outside the
+//! place.
 
 use crate::{ffi::Place, rng::Rng};
 use std::fmt::Debug;

@@ -7,8 +7,8 @@ use sha2::{Digest, Sha256};
 /// Up to this length every length is tried: past four blocks and each place where the padding needs one block more.
 const SHORT: usize = 300;
 
-/// Lengths on both sides of each place where the hash goes another way: the padding ends in the same block or the next, a string has a whole
-/// block or none, four strings are joined in one piece or not.
+/// Lengths on both sides of each place where the hash goes another way: the padding ends in the same block or the next, a string has a
+/// whole block or none, four strings are joined in one piece or not.
 const EDGES: [usize; 8] = [0, 1, 55, 56, 63, 64, 119, 120];
 
 /// The bytes of a block.

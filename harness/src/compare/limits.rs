@@ -1,8 +1,9 @@
 //! Searches with each setting and each list at its limit, against the Rust, and the specification's cases i to l, against the Rust and
 //! what the specification says of them.
 
-use super::{blocks, faults, rules, searches, Checked, Run};
-use crate::{ffi, ffi::Settings, list::List, threshold::Threshold::OfQ};
+use super::{blocks, faults, searches, Checked, Run};
+use crate::model::rules;
+use crate::{ffi, ffi::Settings, list::List, model::threshold::Threshold::OfQ};
 
 pub fn run(run: &mut Run, _: u64) -> Checked {
     let cases = cases();

@@ -1,10 +1,10 @@
-//! The library against the original Rust (and `sha2`), on the same inputs, and against the specification's words where the Rust has no answer.
+//! The library against the original Rust (and `sha2`), on the same inputs, and against the specification's words where the Rust has no
+//! answer.
 
 pub mod bernoulli;
 pub mod block_counts;
 pub mod blocks;
 mod by_x;
-pub mod chains;
 mod changed_tickets;
 pub mod distinct;
 mod export_calls;
@@ -19,7 +19,6 @@ pub mod planted;
 pub mod proof_size;
 pub mod prover_refusals;
 pub mod refusals;
-pub mod rules;
 pub mod searches;
 pub mod small_case;
 pub mod threshold;

@@ -3,10 +3,10 @@
 
 use super::blocks::{self, Block};
 use super::fence::Fenced;
-use super::rules::{self, Amounts, BYTES, MOST};
 use super::{bernoulli, faults, Answered, Checked, Run};
 use crate::load::draws;
-use crate::threshold::Threshold::Alone;
+use crate::model::rules::{self, Amounts, BYTES, MOST};
+use crate::model::threshold::Threshold::Alone;
 use crate::{ffi, ffi::Settings, rng::Rng};
 
 /// Numbers of `out` that are written.

@@ -2,19 +2,19 @@
 //! buffer of the planned blocks. What is due is as for other searches and tickets.
 
 use super::blocks::{self, Block};
-use super::rules::{self, Amounts, BYTES, MOST};
 use super::searches::{self, Outcome};
 use super::verdicts::Claim;
 use super::{faults, plan, prover_refusals, shown_list, tickets, Checked, Run};
+use crate::model::rules::{self, Amounts, BYTES, MOST};
 use crate::{
     ffi,
     ffi::Settings,
     list::List,
+    model::threshold::Threshold::{Alone, OfQ},
+    model::ticket,
+    model::ticket::{Proof, BLOCK},
     original,
     rng::Rng,
-    threshold::Threshold::{Alone, OfQ},
-    ticket,
-    ticket::{Proof, BLOCK},
 };
 
 /// Searches in a block, and the small case's in one.

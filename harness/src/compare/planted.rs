@@ -1,6 +1,6 @@
 //! Lists for distinctness: elements of a shape, and a pair planted among them of which it is known whether the two are the same.
 
-use super::rules::{BYTES, ELEMENTS};
+use crate::model::rules::{BYTES, ELEMENTS};
 use crate::{list::List, rng::Rng};
 
 /// An element as it is lent. The number is its index where it is marked, and else stands in the index's place unread.
@@ -304,7 +304,7 @@ fn each_its_index(rng: &mut Rng, count: usize, data: &[u8]) -> Vec<Lent> {
 #[cfg(test)]
 mod tests {
     use super::*;
-    use crate::compare::rules;
+    use crate::model::rules;
 
     /// A planted pair alone decides what is due, by the word that stands beside it, where nothing else is repeated.
     #[test]

@@ -1,5 +1,5 @@
-//! `alba_proof_size` against whole numbers without limit (src/proof_size.rs): the size, the two refusals and their order, and what stands in
-//! `out`.
+//! `alba_proof_size` against whole numbers without limit (src/model/proof_size.rs): the size, the two refusals and their order, and what
+//! stands in `out`.
 //!
 //! Both sides of the inequality are never equal: 1,442,695 is 5 × 288,539, a prime above every f and c, so that it divides the left side
 //! alone. So ≥ and > give the same sizes, and no figures tell them apart.
@@ -8,7 +8,7 @@ use super::blocks::{self, Block};
 use super::fence::Fenced;
 use super::{Answered, Checked, Run};
 use crate::load::draws::up_to;
-use crate::proof_size::{self, last, meets, out_of_range, Figures, Log2E, MOST, MOST_C, MOST_N, MOST_S};
+use crate::model::proof_size::{self, last, meets, out_of_range, Figures, Log2E, MOST, MOST_C, MOST_N, MOST_S};
 use crate::{ffi, rng::Rng, turning};
 
 /// Random figures, and walks to where the size turns, in a block.
@@ -143,8 +143,8 @@ fn at_ends(number: u64, block: &mut Block) -> Checked {
     Ok(())
 }
 
-/// The last f that a size serves, with other figures drawn, and from there the last s and c and the least n that it serves; and for each the
-/// next.
+/// The last f that a size serves, with other figures drawn, and from there the last s and c and the least n that it serves; and for each
+/// the next.
 fn at_turns(block: &mut Block) -> Checked {
     let rng = &mut block.rng;
     let size = match rng.below(4) {

@@ -2,8 +2,9 @@
 
 use super::blocks::{self, Block};
 use super::fence::Fenced;
-use super::{faults, rules, searches, shown_list, Checked, Run};
-use crate::threshold::Threshold::{Alone, OfQ};
+use super::{faults, searches, shown_list, Checked, Run};
+use crate::model::rules;
+use crate::model::threshold::Threshold::{Alone, OfQ};
 use crate::{ffi, ffi::Settings, list::List, rng::Rng};
 
 const BLOCK: u64 = 100;

@@ -3,15 +3,16 @@
 
 use super::blocks::{self, Block};
 use super::fence::Fenced;
-use super::{bernoulli, chains, rules, shown_list, verdicts, Checked, Run};
+use super::{bernoulli, shown_list, verdicts, Checked, Run};
+use crate::model::{chains, rules};
 use crate::{
     ffi,
     ffi::Settings,
     list::{List, Placed},
+    model::threshold::Threshold::{Alone, OfQ},
     original,
     original::ProofOf,
     rng::Rng,
-    threshold::Threshold::{Alone, OfQ},
 };
 
 /// Searches of one list, and of such a family, in a block.

@@ -1,7 +1,7 @@
 //! `alba_small_case` against the Rust's `param_small_case`: every figure, X bit for bit as that of the Rust's q.
 
 use super::{fence::Fenced, Answered, Checked, Run};
-use crate::threshold::{self, halves};
+use crate::model::threshold::{self, halves};
 use crate::{ffi, rng::Rng};
 
 /// How many numbers are lent for the answer.

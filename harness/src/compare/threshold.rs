@@ -1,7 +1,7 @@
-//! `alba_threshold`, which makes X from q, against X worked out from the specification's words (src/threshold.rs).
+//! `alba_threshold`, which makes X from q, against X worked out from the specification's words (src/model/threshold.rs).
 
 use super::{bernoulli, fence::Fenced, refusals, Answered, Checked, Run};
-use crate::{ffi, rng::Rng, threshold};
+use crate::{ffi, model::threshold, rng::Rng};
 
 /// How many numbers are lent for the answer.
 pub const WORDS: usize = 2;

@@ -1,17 +1,17 @@
-//! `alba_write_ticket` and `alba_read_ticket` against the harness's own writer and reader (src/ticket.rs): the number, what stands in
+//! `alba_write_ticket` and `alba_read_ticket` against the harness's own writer and reader (src/model/ticket.rs): the number, what stands in
 //! `out`, and every byte of every lent buffer. Of whatever is read, `alba_stated_blocks` is asked too.
 
 use super::blocks::{self, Block, Tally};
 use super::fence::Fenced;
-use super::rules::{self, BYTES, ELEMENTS};
 use super::verdicts::Claim;
 use super::{changed_tickets, faults, hex, searches, shown_list, verdicts, verifier_refusals, Answered, Checked, Run};
+use crate::model::rules::{self, BYTES, ELEMENTS};
 use crate::{
     ffi,
     list::List,
+    model::ticket,
+    model::ticket::{Proof, Told, BLOCK, BODY},
     rng::Rng,
-    ticket,
-    ticket::{Proof, Told, BLOCK, BODY},
 };
 
 /// How many numbers are lent of each kind to the reader.

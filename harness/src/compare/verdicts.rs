@@ -1,10 +1,11 @@
-//! `alba_verify` against the Rust's verifier and the specification's words (chains.rs), with an X by itself against these alone: on each proof
-//! found, and on many damaged copies of it.
+//! `alba_verify` against the Rust's verifier and the specification's words (model/chains.rs), with an X by itself against these alone: on
+//! each proof found, and on many damaged copies of it.
 
 use super::blocks::Block;
 use super::searches::Outcome;
-use super::{bernoulli, chains, rules, shown_list, Answered, Checked};
-use crate::threshold::Threshold::{Alone, OfQ};
+use super::{bernoulli, shown_list, Answered, Checked};
+use crate::model::threshold::Threshold::{Alone, OfQ};
+use crate::model::{chains, rules};
 use crate::{ffi, ffi::Settings, list::List, original, original::ProofOf, rng::Rng};
 
 /// A proof and the settings that it is held to.

@@ -3,13 +3,14 @@
 use super::blocks::{self, Block};
 use super::searches::Outcome;
 use super::verdicts::{self, Claim};
-use super::{faults, rules, searches, Checked, Run};
+use super::{faults, searches, Checked, Run};
+use crate::model::rules;
 use crate::{
     ffi,
     ffi::Settings,
     list::{List, Written},
+    model::threshold::Threshold::OfQ,
     rng::Rng,
-    threshold::Threshold::OfQ,
 };
 
 const BLOCK: u64 = 100;

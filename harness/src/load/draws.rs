@@ -1,9 +1,9 @@
 //! Settings and lists from the whole of the specification's domain, and how long a search of them may take.
 
-use crate::compare::rules::{BYTES, ELEMENTS, MOST};
 use crate::compare::verdicts::Claim;
 use crate::compare::{bernoulli, searches};
-use crate::threshold::Threshold::{self, Alone, OfQ};
+use crate::model::rules::{BYTES, ELEMENTS, MOST};
+use crate::model::threshold::Threshold::{self, Alone, OfQ};
 use crate::{ffi::Settings, list::List, rng::Rng};
 
 /// The most data bytes of a list, all elements together. Full lists are run by themselves.

@@ -4,13 +4,13 @@ use super::draws::{self, up_to};
 use crate::compare::blocks::Block;
 use crate::compare::planned::{self, Planned};
 use crate::compare::planted::{NUMBERS, PLANTS, SHAPES};
-use crate::compare::rules::{BYTES, ELEMENTS, MOST};
 use crate::compare::{
     bernoulli, block_counts, distinct, faults, hash, plan, proof_size, prover_refusals, refusals, searches, small_case, threshold, tickets,
     uniform, verdicts, verifier_refusals,
 };
 use crate::compare::{Answered, Checked};
-use crate::{ffi, ffi::Settings, list::List, rng::Rng, ticket::Proof};
+use crate::model::rules::{BYTES, ELEMENTS, MOST};
+use crate::{ffi, ffi::Settings, list::List, model::ticket::Proof, rng::Rng};
 use std::sync::{Mutex, PoisonError};
 
 type Turn = fn(&mut Block) -> Checked;

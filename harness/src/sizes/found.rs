@@ -2,7 +2,7 @@
 
 use crate::compare::Checked;
 use crate::ffi;
-use crate::proof_size::{Figures, MOST};
+use crate::model::proof_size::{Figures, MOST};
 use std::collections::BTreeMap;
 use std::fmt::Write;
 

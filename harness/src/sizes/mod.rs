@@ -4,7 +4,7 @@
 mod found;
 mod pairs;
 
-use crate::proof_size::{meets, Figures, Log2E, MOST};
+use crate::model::proof_size::{meets, Figures, Log2E, MOST};
 use crate::turning::{self, Beside, Rounded};
 use crate::{args::Sizes, compare::Checked, original, rng::Rng};
 use found::{Found, Three, NONE};

@@ -1,6 +1,6 @@
 //! The pairs of n and f that every s and c is tried with.
 
-use crate::proof_size::MOST_N;
+use crate::model::proof_size::MOST_N;
 use crate::rng::Rng;
 
 type Pair = fn(&mut Rng) -> (u64, u64);
@@ -57,7 +57,7 @@ fn around_powers(rng: &mut Rng) -> (u64, u64) {
 #[cfg(test)]
 mod tests {
     use super::*;
-    use crate::proof_size::{out_of_range, Figures};
+    use crate::model::proof_size::{out_of_range, Figures};
 
     #[test]
     fn pairs_are_lawful() {

@@ -1,13 +1,14 @@
 -- The verifier's chain as the code follows it, a round at a time, and its judgement in two parts.
-use mathlib.Core.Bool.{Bool, true, false, cond}
-use mathlib.Core.List.{List}
+use mathlib.Core.Bool.{Bool, true, false, not}
+use mathlib.Core.List.{List, [], _∷_}
 use mathlib.Core.Option.{Option, none, some}
 use Prim.Native.Nat.{ℕ}
 use lib.Dec.{eqb}
 use Rattle.centralized_telescope.specs.declared.params.Params.{Params}
 use Rattle.centralized_telescope.specs.declared.round.Round.{Round}
-use Rattle.centralized_telescope.specs.Elements.{Element}
-use Rattle.centralized_telescope.specs.Verifier.{ifSome, isBin, follow, countersOut}
+use Rattle.sampling.specs.core.FirstNumber.{line, firstNumber}
+use Rattle.centralized_telescope.specs.core.Elements.{Element}
+use Rattle.centralized_telescope.specs.core.Verifier.{ifSome, isBin, follow, countersOut}
 use Rattle.centralized_telescope.specs.inner.RoundAnswers.{idOption}
 
 -- ---- the chain
@@ -32,4 +33,4 @@ followed p R r es = followedFrom p R (r .hash) (idOption (r .id)) es
 
 -- what the length n of a list and the counters say of it: 20, 21, or 0 where they leave it to the chain
 abbrev pub countsNumber : Params → ℕ → ℕ → ℕ → ℕ
-countsNumber p R S n = cond (eqb n (p .«proof_size»)) (cond (countersOut p R S) 21 0) 20
+countsNumber p R S n = firstNumber (line 20 (not (eqb n (p .«proof_size»))) ∷ line 21 (countersOut p R S) ∷ [])

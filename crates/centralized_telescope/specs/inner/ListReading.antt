@@ -1,12 +1,13 @@
 -- A lent list as the code reads it. ElementsLaws and ProofListLaws tie this to `elements`, and the proofs to `listCheck`.
-use mathlib.Core.Bool.{Bool, cond, not, _||_}
+use mathlib.Core.Bool.{Bool, not, _||_}
 use mathlib.Core.List.{List, [], _∷_, _++_}
 use mathlib.Core.Option.{Option}
 use Prim.Native.Nat.{ℕ, _-_}
 use lib.Dec.{ltb, eqb}
 use lib.ListN.{take, drop, getD}
 use denote.Ref.{RefT, now}
-use Rattle.centralized_telescope.specs.Elements.{Element, Lent, lentOf, indexOf}
+use Rattle.sampling.specs.core.FirstNumber.{line, firstNumber}
+use Rattle.centralized_telescope.specs.core.Elements.{Element, Lent, lentOf, indexOf, maxElements}
 
 -- the list that four slices hold, where an inner contract asks
 abbrev pub lentNow : RefT (List ℕ) → RefT (List ℕ) → RefT (List ℕ) → RefT (List ℕ) → Lent
@@ -42,4 +43,4 @@ dataOf bytes ends (place ∷ places) = dataAt bytes ends place ++ dataOf bytes e
 -- the same number by what is found in a list: the lengths of ends, marks and indexes; a mark over 1, a wrong end, over-long data
 abbrev pub foundNumber : ℕ → ℕ → ℕ → Bool → Bool → Bool → ℕ
 foundNumber n m x over wrong long =
-    cond (not (eqb n m) || (not (eqb n x) || (over || wrong))) 4 (cond (ltb 65536 n || long) 5 0)
+    firstNumber (line 4 (not (eqb n m) || (not (eqb n x) || (over || wrong))) ∷ line 5 (ltb maxElements n || long) ∷ [])

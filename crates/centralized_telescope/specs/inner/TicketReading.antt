@@ -5,10 +5,10 @@ use mathlib.Core.List.{List}
 use Prim.Native.Nat.{ℕ, zero, suc, _+_, _*_, _/_, _≤_}
 use lib.Dec.{leb, ltb}
 use lib.ListN.{length, drop, getD}
-use Rattle.sampling.specs.BigEndian.{bigEndian}
-use Rattle.centralized_telescope.specs.Lists.{someOf}
-use Rattle.centralized_telescope.specs.Blocks.{bodiesOf}
-use Rattle.centralized_telescope.specs.Tickets.{countIn, isTicket, elementsPart}
+use Rattle.sampling.specs.core.BigEndian.{bigEndian}
+use Rattle.centralized_telescope.specs.core.Lists.{someOf}
+use Rattle.centralized_telescope.specs.later.Blocks.{bodiesOf, blockBytes, bodyBytes, maxFilling}
+use Rattle.centralized_telescope.specs.later.Tickets.{countIn, isTicket, elementsPart, ticketHeadBytes}
 use Rattle.centralized_telescope.specs.declared.ticket.Head.{Head}
 use Rattle.centralized_telescope.specs.declared.ticket.Head.the-variants as head
 use Rattle.centralized_telescope.specs.declared.ticket.HeadRead.{HeadRead}
@@ -16,6 +16,7 @@ use Rattle.centralized_telescope.specs.declared.ticket.Found.{Found}
 use Rattle.centralized_telescope.specs.declared.ticket.Found.the-variants as found
 use Rattle.centralized_telescope.specs.declared.ticket.Layout.{Layout}
 use Rattle.centralized_telescope.specs.declared.ticket.Layout.the-variants as layout
+use Rattle.centralized_telescope.specs.core.Elements.{maxDataBytes, maxElements}
 
 -- ---- one element at the front of bytes: its mark, how long its head is, how many data bytes follow
 
@@ -31,7 +32,7 @@ sizeIn s = bigEndian 4 (drop (1 + 8 * markIn s) s)
 unfoldable pub laidOut : List ℕ → Bool
 laidOut s =
     leb 5 (length s)
-    && (leb (markIn s) 1 && (leb (headSize s) (length s) && (leb (sizeIn s) 4096 && leb (headSize s + sizeIn s) (length s))))
+    && (leb (markIn s) 1 && (leb (headSize s) (length s) && (leb (sizeIn s) maxDataBytes && leb (headSize s + sizeIn s) (length s))))
 
 pub record HeadIs (h : HeadRead) (s : List ℕ) : Type 0 where
   pub laid : laidOut s ≡ true
@@ -60,7 +61,7 @@ dataSize (suc n) s = sizeIn s + dataSize n (drop (headSize s + sizeIn s) s)
 
 pub record LayoutIs (at used n : ℕ) (b : List ℕ) : Type 0 where
   pub laid : allLaidOut n (elementsPart b) ≡ true
-  pub ends-at : at ≡ 24 + layoutSize n (elementsPart b)
+  pub ends-at : at ≡ ticketHeadBytes + layoutSize n (elementsPart b)
   pub uses : used ≡ dataSize n (elementsPart b)
 
 abbrev pub LayoutSays : Layout → ℕ → List ℕ → Type 0
@@ -70,15 +71,15 @@ LayoutSays layout.Outside n b = allLaidOut n (elementsPart b) ≡ false
 -- ---- what follows the elements: zeros, and less than a body
 
 unfoldable pub fillingRight : List ℕ → Bool
-fillingRight s = leb (length s) 503 && not (someOf (ltb 0) s)
+fillingRight s = leb (length s) maxFilling && not (someOf (ltb 0) s)
 
 -- ---- all of it: the blocks, which are undamaged, are a ticket
 
 pub record FoundIs (count size : ℕ) (t : List ℕ) : Type 0 where
-  pub some-block : 504 ≤ 504 * (length t / 512)
+  pub some-block : bodyBytes ≤ bodyBytes * (length t / blockBytes)
   pub is : isTicket t ≡ true
   pub counted : count ≡ countIn (bodiesOf t)
-  pub few : count ≤ 65536
+  pub few : count ≤ maxElements
   pub laid : allLaidOut count (elementsPart (bodiesOf t)) ≡ true
   pub uses : size ≡ dataSize count (elementsPart (bodiesOf t))
 

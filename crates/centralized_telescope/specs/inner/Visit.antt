@@ -1,27 +1,27 @@
--- What the parts of the search's code give, in the terms of specs/Search and of Walk. Nothing here is to be believed by a reader: the
--- contract of `prove` speaks of specs/Prover alone, and the proofs tie these to it.
+-- What the parts of the search's code give, in the terms of Search and of Walk. Nothing here is to be believed by a reader: the
+-- contract of `prove` speaks of Prover alone, and the proofs tie these to it.
 use mathlib.Core.Path.{_≡_}
 use mathlib.Core.Bool.{cond}
 use mathlib.Core.List.{List, _++_}
 use Prim.Native.Nat.{ℕ, _+_, _-_, _≤_, _<_}
 use lib.Dec.{ltb}
-use lib.ListN.{getD}
 use Rattle.centralized_telescope.specs.declared.params.Params.{Params}
-use Rattle.centralized_telescope.specs.declared.proof.Outcome.{Outcome}
-use Rattle.centralized_telescope.specs.declared.proof.Outcome.the-variants as outcome
-use Rattle.centralized_telescope.specs.declared.proof.Attempt.{Attempt}
-use Rattle.centralized_telescope.specs.declared.proof.Attempt.the-variants as attempt
-use Rattle.centralized_telescope.specs.Params.{checked}
-use Rattle.centralized_telescope.specs.Elements.{elements, listCheck, Lent}
-use Rattle.centralized_telescope.specs.Lists.{over}
-use Rattle.centralized_telescope.specs.Bins.{tableOf}
-use Rattle.centralized_telescope.specs.Chains.{Try, tryOf, Chain}
-use Rattle.centralized_telescope.specs.Search.{binsOf, along, chains, chainsFrom, passing}
+use Rattle.centralized_telescope.specs.declared.search.Outcome.{Outcome}
+use Rattle.centralized_telescope.specs.declared.search.Outcome.the-variants as outcome
+use Rattle.centralized_telescope.specs.declared.search.Attempt.{Attempt}
+use Rattle.centralized_telescope.specs.declared.search.Attempt.the-variants as attempt
+use Rattle.centralized_telescope.specs.core.Params.{checked}
+use Rattle.centralized_telescope.specs.core.Lists.{over}
+use Rattle.centralized_telescope.specs.core.Bins.{tableOf}
+use Rattle.centralized_telescope.specs.core.Chains.{Try, tryOf, Chain}
+use Rattle.centralized_telescope.specs.core.Search.{binsOf, along, chains, chainsFrom, passing}
+use Rattle.centralized_telescope.specs.inner.Source.{Source, meant, Readable}
+use Rattle.centralized_telescope.specs.inner.BinSpans.{HoldsBin}
 use Rattle.centralized_telescope.specs.inner.Walk.{Ended, found, missing, walk}
 
--- the try of a retry counter on a lent list
-abbrev pub tryOn : Params → Lent → ℕ → Try
-tryOn p lent R = tryOf p (elements lent) R
+-- the try of a retry counter on a source
+abbrev pub tryOn : Params → Source → ℕ → Try
+tryOn p s R = tryOf p (meant s) R
 
 -- ---- the walk of some of a try's chains, after `count` steps
 
@@ -57,39 +57,41 @@ written (missing count) places = places
 unfoldable pub writtenFrom : Params → ℕ → Ended Chain → List ℕ → List ℕ
 writtenFrom p depth r places = cond (ltb depth (p .«proof_size»)) (written r places) places
 
--- ---- what the search is given: settings that pass the check, an accepted list, the try's bin table, and room
+-- ---- what the search is given: settings that pass the check, a source that may be read, the try's bin table, and room
 
-pub record Ready (p : Params) (lent : Lent) (R : ℕ) (table : List ℕ) (room : ℕ) : Type 0 where
+pub record Ready (p : Params) (s : Source) (R : ℕ) (table : List ℕ) (room : ℕ) : Type 0 where
   pub settings : checked p ≡ 0
-  pub list : listCheck lent ≡ 0
+  pub source : Readable s
   pub rest : List ℕ
-  pub table-is : table ≡ tableOf (p .«set_size») (binsOf (tryOn p lent R)) ++ rest
+  pub table-is : table ≡ tableOf (p .«set_size») (binsOf (tryOn p s R)) ++ rest
   pub roomy : p .«proof_size» ≤ room
 
--- a part of the table within its places
-pub record Span (p : Params) (table : List ℕ) (from to : ℕ) : Type 0 where
-  pub low : p .«set_size» + 1 ≤ from
-  pub order : from ≤ to
-  pub high : to ≤ p .«set_size» + 1 + getD table (p .«set_size») 0
-
--- ---- what the code promises of a walk: its answer, and the lent places afterwards
-
-abbrev pub WalkEnds : Ended Chain → Outcome → List ℕ → List ℕ → Type 0
-WalkEnds w r places after = (r ≡ outcomeOf w) × (after ≡ written w places)
-
-abbrev pub VisitEnds : Params → ℕ → Ended Chain → Outcome → List ℕ → List ℕ → Type 0
-VisitEnds p depth w r places after = (r ≡ outcomeOf w) × (after ≡ writtenFrom p depth w places)
-
--- ---- and what it asks
-
-pub record CanVisit (p : Params) (lent : Lent) (R : ℕ) (table : List ℕ) (room id depth steps : ℕ) : Type 0 where
-  pub ready : Ready p lent R table room
-  pub bin : id < p .«set_size»
+-- a visit at a depth of a round with this id
+pub record CanVisit (p : Params) (s : Source) (R : ℕ) (table : List ℕ) (room id depth steps : ℕ) : Type 0 where
+  pub ready : Ready p s R table room
+  pub id-below : id < p .«set_size»
   pub deep : depth ≤ p .«proof_size»
   pub within : steps < p .«dfs_bound»
 
-pub record CanWalk (p : Params) (lent : Lent) (R : ℕ) (table : List ℕ) (room from to depth steps : ℕ) : Type 0 where
-  pub ready : Ready p lent R table room
-  pub span : Span p table from to
+-- a walk of a bin's span of the table
+pub record CanWalk (p : Params) (s : Source) (R : ℕ) (table : List ℕ) (room from to depth steps : ℕ) : Type 0 where
+  pub ready : Ready p s R table room
+  pub bin : ℕ
+  pub span : HoldsBin (binsOf (tryOn p s R)) table bin from to
   pub deep : depth < p .«proof_size»
   pub within : steps ≤ p .«dfs_bound»
+
+-- ---- what the code promises: its answer, and the lent places afterwards
+
+pub record Answers {A : Type 0} (answer said : A) (after left : List ℕ) : Type 0 where
+  pub answer-is : answer ≡ said
+  pub places-are : after ≡ left
+
+abbrev pub VisitEnds : Params → ℕ → Ended Chain → Outcome → List ℕ → List ℕ → Type 0
+VisitEnds p depth w r places after = Answers r (outcomeOf w) after (writtenFrom p depth w places)
+
+abbrev pub WalkEnds : Ended Chain → Outcome → List ℕ → List ℕ → Type 0
+WalkEnds w r places after = Answers r (outcomeOf w) after (written w places)
+
+abbrev pub TryEnds : Ended Chain → Attempt → List ℕ → List ℕ → Type 0
+TryEnds w r places after = Answers r (attemptOf w) after (written w places)

@@ -1,5 +1,5 @@
 -- The bounded walk along a list, which the search's code follows: it counts what it meets, up to a bound, and stops at the first for
--- which a test says yes. Its laws (WalkLaws) tie it to K, the count and the find of specs/Search.
+-- which a test says yes. Its laws (WalkLaws) tie it to K, the count and the find of Search.
 use mathlib.Core.Bool.{Bool, cond}
 use mathlib.Core.List.{List, [], _∷_}
 use mathlib.Core.Option.{Option, none, some}

@@ -7,10 +7,10 @@ use native.Mathlib.Nat.{pow-suc}
 use native.Mathlib.Omega.{arith}
 use lib.ListN.{length, take, drop, getD, length-take, take-append-drop, List·getD-eq-default}
 use lib.Seq.{take-suc, getD-take, getD-drop}
-use Rattle.sampling.specs.BigEndian.{bigEndian, bytesOf}
+use Rattle.sampling.specs.core.BigEndian.{bigEndian, bytesOf}
 use Rattle.sampling.specs.laws.BigEndianLaws.{length-bytesOf, bigEndian-append, read-back}
 use Rattle.centralized_telescope.specs.laws.TestLaws.{lt-or-le}
-use Rattle.centralized_telescope.specs.Lists.{Each}
+use Rattle.centralized_telescope.specs.core.Lists.{Each}
 
 -- each is a byte; behind the last a 0 is read
 abbrev pub Bytes : List ℕ → Type 0

@@ -60,7 +60,8 @@ module _ (k : ℕ) (before now : List ℕ) (i carry : ℕ) where
       (next-product (standsFor i now) (base ^ i) (standsFor i before) k (getD now i 0) carry (sum / base) (sum % base) e (omega arith))
 
 -- the digits behind are as they were
-pub behind-same : (before now : List ℕ) (i : ℕ) → ((j : ℕ) → i ≤ j → getD now j 0 ≡ getD before j 0) → (a j : ℕ) → i + 1 ≤ j → getD (set now i a) j 0 ≡ getD before j 0
+pub behind-same : (before now : List ℕ) (i : ℕ) → ((j : ℕ) → i ≤ j → getD now j 0 ≡ getD before j 0) → (a j : ℕ) → i + 1 ≤ j
+    → getD (set now i a) j 0 ≡ getD before j 0
 behind-same before now i h a j l = getD-set-other now i j a 0 (λ e. omega arith) ∙ h j (omega arith)
 
 -- where there was room nothing is carried in the end
@@ -146,10 +147,15 @@ module _ (i : ℕ) (a b : List ℕ) where
 pub one-digit : (k a : ℕ) → numberIn (set (replicate (suc k) 0) 0 a) ≡ a
 unfolding standsFor
 one-digit k a =
-    subst (λ (n : ℕ). standsFor n (set (replicate (suc k) 0) 0 a) ≡ a) (sym (length-set (replicate (suc k) 0) 0 a ∙ length-replicate {A = ℕ} (suc k) 0)) (go k (omega arith))
+    subst (λ (n : ℕ). standsFor n (set (replicate (suc k) 0) 0 a) ≡ a)
+    (sym (length-set (replicate (suc k) 0) 0 a ∙ length-replicate {A = ℕ} (suc k) 0)) (go k (omega arith))
   where
     go : (j : ℕ) → j ≤ k → standsFor (suc j) (set (replicate (suc k) 0) 0 a) ≡ a
     go zero h = rw (getD-set-same (replicate (suc k) 0) 0 a 0 (omega (arith, length-replicate {A = ℕ} (suc k) 0))) (omega arith)
     go (suc j) h =
-        rw (go j (omega arith), getD-set-other (replicate (suc k) 0) 0 (suc j) a 0 (λ e. omega arith), getD-replicate {A = ℕ} (suc k) (suc j) 0 0 (omega arith))
+        rw (
+          go j (omega arith),
+          getD-set-other (replicate (suc k) 0) 0 (suc j) a 0 (λ e. omega arith),
+          getD-replicate {A = ℕ} (suc k) (suc j) 0 0 (omega arith),
+        )
         (omega arith)

@@ -8,11 +8,12 @@ use borrow.Author.Tests.{eq-eqb, eqb-true, not-true}
 use lib.Dec.{eqb}
 use lib.ListN.{length}
 use Rattle.centralized_telescope.specs.laws.TestLaws.{not-both, both, neither}
-use Rattle.centralized_telescope.specs.Elements.{Element, markOf, numberOf, elementAt}
+use Rattle.centralized_telescope.specs.core.Elements.{Element, elementAt}
+use Rattle.centralized_telescope.specs.later.Words.{markOf, numberOf, sameBytes}
 use Rattle.centralized_telescope.specs.laws.ElementsLaws.{same-parts}
-use Rattle.centralized_telescope.specs.laws.SortingLaws.{index-known}
-use Rattle.centralized_telescope.specs.Lists.{someOf, sameBytes}
-use Rattle.centralized_telescope.specs.Distinct.{Distinct, sameElement, noneEqual, distinctExactly}
+use Rattle.centralized_telescope.specs.laws.OrderingLaws.{index-known}
+use Rattle.centralized_telescope.specs.core.Lists.{someOf}
+use Rattle.centralized_telescope.specs.later.Distinct.{Distinct, sameElement, noneEqual, distinctExactly}
 
 -- ---- bytes
 

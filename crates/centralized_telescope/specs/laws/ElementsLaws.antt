@@ -1,6 +1,6 @@
 -- Laws of accepted lists. A caller that cites these opens none of the definitions.
 use mathlib.Core.Path.{_≡_, refl, sym, ap, _∙_}
-use mathlib.Core.Bool.{Bool, true, false, cond, not}
+use mathlib.Core.Bool.{Bool, true, false, not}
 use mathlib.Core.List.{List, [], _∷_}
 use mathlib.Core.Option.{Option, none, some}
 use Prim.Native.Nat.{ℕ, zero, suc, _-_, _≤_, _<_}
@@ -9,36 +9,41 @@ use borrow.Author.Tests.{eqb-true, ltb-false, not-false}
 use lib.Dec.{ltb, eqb}
 use lib.ListN.{length, take, drop, getD, length-take}
 use lib.Seq.{getD-take}
+use Rattle.sampling.specs.core.FirstNumber.{line, firstNumber}
 use Rattle.sampling.specs.laws.BigEndianLaws.{length-bytesOf}
 use Rattle.centralized_telescope.specs.laws.TestLaws.{neither}
-use Rattle.centralized_telescope.specs.Elements.{Element, markOf, numberOf, indexBytes, indexOf, elementsFrom, elements, elementAt}
-use Rattle.centralized_telescope.specs.Elements.{markOver, endWrong, malformed, dataLong, tooLarge, listCheck, Lent}
+use Rattle.centralized_telescope.specs.core.Elements.{Element, indexBytes, indexOf, elementsFrom, elements, elementAt, markOver}
+use Rattle.centralized_telescope.specs.core.Elements.{endWrong, malformed, dataLong, tooLarge, listCheck, Lent, maxDataBytes}
+use Rattle.centralized_telescope.specs.core.Elements.{maxElements}
+use Rattle.centralized_telescope.specs.later.Words.{markOf, numberOf}
 use Rattle.centralized_telescope.specs.inner.ListReading.{startAt, dataAt, indexAt, elementOf}
 
 -- ---- what the check of a list says of the whole of it
 
 -- no refusal: neither test said yes
-unrefused : (a b : Bool) → _≡_ {A = ℕ} (cond a 4 (cond b 5 0)) 0 → (a ≡ false) × (b ≡ false)
+unrefused : (a b : Bool) → firstNumber (line 4 a ∷ line 5 b ∷ []) ≡ 0 → (a ≡ false) × (b ≡ false)
+unfolding firstNumber
 unrefused true b e = absurd (omega arith)
 unrefused false true e = absurd (omega arith)
 unrefused false false e = (refl, refl)
 
 -- the check's number is one of the table's
+in-range : (a b : Bool) → firstNumber (line 4 a ∷ line 5 b ∷ []) < 6
+unfolding firstNumber
+in-range true b = omega arith
+in-range false true = omega arith
+in-range false false = omega arith
+
 pub check-range : (lent : Lent) → listCheck lent < 6
 unfolding listCheck
-check-range lent = go (malformed lent) (tooLarge (lent .ends))
-  where
-    go : (a b : Bool) → cond a 4 (cond b 5 0) < 6
-    go true b = omega arith
-    go false true = omega arith
-    go false false = omega arith
+check-range lent = in-range (malformed lent) (tooLarge (lent .ends))
 
 pub record NoFault (lent : Lent) : Type 0 where
   pub marks : length (lent .ends) ≡ length (lent .marks)
   pub indexes : length (lent .ends) ≡ length (lent .indexes)
   pub marked : markOver (lent .marks) ≡ false
   pub rising : endWrong 0 (length (lent .bytes)) (lent .ends) ≡ false
-  pub few : length (lent .ends) ≤ 65536
+  pub few : length (lent .ends) ≤ maxElements
   pub short : dataLong 0 (lent .ends) ≡ false
 
 pub accepted : (lent : Lent) → listCheck lent ≡ 0 → NoFault lent
@@ -49,13 +54,13 @@ accepted lent e =
     let lengths = neither (not (eqb (length n) (length m))) (r .0) in
     let others = neither (not (eqb (length n) (length x))) (lengths .1) in
     let faults = neither (markOver m) (others .1) in
-    let sizes = neither (ltb 65536 (length n)) (r .1) in
+    let sizes = neither (ltb maxElements (length n)) (r .1) in
     record {
       marks = eqb-true (length n) (length m) (not-false _ (lengths .0));
       indexes = eqb-true (length n) (length x) (not-false _ (others .0));
       marked = faults .0;
       rising = faults .1;
-      few = ltb-false 65536 (length n) (sizes .0);
+      few = ltb-false maxElements (length n) (sizes .0);
       short = sizes .1;
     }
 
@@ -71,11 +76,11 @@ end-at from limit (k ∷ n) zero h e =
     (ltb-false k from (r .0), ltb-false limit k (neither (ltb limit k) (r .1) .0))
 end-at from limit (k ∷ n) (suc i) h e = end-at k limit n i (omega arith) (neither (ltb limit k) (neither (ltb k from) e .1) .1)
 
-size-at : (from : ℕ) (n : List ℕ) (i : ℕ) → i < length n → dataLong from n ≡ false → getD n i 0 - getD (from ∷ n) i 0 ≤ 4096
+size-at : (from : ℕ) (n : List ℕ) (i : ℕ) → i < length n → dataLong from n ≡ false → getD n i 0 - getD (from ∷ n) i 0 ≤ maxDataBytes
 unfolding dataLong
 size-at from [] i h e = absurd (omega arith)
-size-at from (k ∷ n) zero h e = ltb-false 4096 (k - from) (neither (ltb 4096 (k - from)) e .0)
-size-at from (k ∷ n) (suc i) h e = size-at k n i (omega arith) (neither (ltb 4096 (k - from)) e .1)
+size-at from (k ∷ n) zero h e = ltb-false maxDataBytes (k - from) (neither (ltb maxDataBytes (k - from)) e .0)
+size-at from (k ∷ n) (suc i) h e = size-at k n i (omega arith) (neither (ltb maxDataBytes (k - from)) e .1)
 
 -- ---- what the list means
 
@@ -133,7 +138,7 @@ module _ (lent : Lent) (A : listCheck lent ≡ 0) where
   pub same-indexes : length n ≡ length x
   same-indexes = accepted lent A .indexes
 
-  pub few-elements : length n ≤ 65536
+  pub few-elements : length n ≤ maxElements
   few-elements = accepted lent A .few
 
   pub ends-right : endWrong 0 (length d) n ≡ false
@@ -143,7 +148,7 @@ module _ (lent : Lent) (A : listCheck lent ≡ 0) where
   length-elements = length-from 0 d n m x same-marks same-indexes
 
   module _ (i : ℕ) (h : i < length n) where
-    pub size-within : getD n i 0 - startAt n i ≤ 4096
+    pub size-within : getD n i 0 - startAt n i ≤ maxDataBytes
     unfolding startAt
     size-within = size-at 0 n i h (accepted lent A .short)
 
@@ -170,14 +175,14 @@ module _ (lent : Lent) (A : listCheck lent ≡ 0) where
     pub place-within : (i < length m) × (i < length x)
     place-within = (omega (arith, same-marks), omega (arith, same-indexes))
 
-    pub data-short : length (dataAt d n i) ≤ 4096
+    pub data-short : length (dataAt d n i) ≤ maxDataBytes
     unfolding dataAt
     data-short = simp length-take (omega (arith, size-within))
 
-    pub own-short : (own : List ℕ) → own ≡ dataAt d n i → length own ≤ 4096
+    pub own-short : (own : List ℕ) → own ≡ dataAt d n i → length own ≤ maxDataBytes
     own-short own o = rw o data-short
 
-    pub bytes-short : length (elementAt (elements lent) i .bytes) ≤ 4096
+    pub bytes-short : length (elementAt (elements lent) i .bytes) ≤ maxDataBytes
     bytes-short = rw data-there data-short
 
 -- ---- the first k elements of a list: a place among them means the same element in both

@@ -1,19 +1,19 @@
--- Laws of the words of specs/Lists, and of lists.
+-- Laws of the words of Lists, and of lists.
 use mathlib.Core.Path.{_≡_, refl, sym, ap, _∙_, subst}
 use mathlib.Core.Bool.{Bool, true, false, cond}
 use mathlib.Core.Logic.{_⊎_, inl, inr, ⊎-elim}
-use mathlib.Core.List.{List, [], _∷_, _++_, map, append-assoc, map-append, List·Memᴰ, List·Memᴰ·head, List·Memᴰ·tail, List·Memᴰ·cases-cons, List·Memᴰ·append-cases, List·Memᴰ·not-nil}
+use mathlib.Core.List.{List, [], _∷_, _++_, map, append-assoc, map-append, List·Memᴰ, List·Memᴰ·head, List·Memᴰ·tail, List·Memᴰ·cases-cons}
+use mathlib.Core.List.{List·Memᴰ·append-cases, List·Memᴰ·not-nil}
 use mathlib.Core.Option.{none, some}
 use Prim.Native.Nat.{ℕ, zero, suc, _+_, _-_, _≤_, _<_}
 use native.Mathlib.Nat.{suc-add}
 use native.Mathlib.Numerals.{add-one}
 use native.Mathlib.Omega.{arith}
-use borrow.Author.Tests.{eq-eqb, ne-eqb, eqb-true, eqb-false}
-use lib.Dec.{T, eqb}
+use lib.Dec.{T}
 use lib.ListN.{length, take, drop, getD, set, length-append, take-append-drop, drop-of-length-le}
 use lib.Seq.{slice, take-at, take-take, take-suc, take-set-le, take-set-lt, drop-cons, drop-drop, drop-set-lt, set-at, length-take-le}
 use Rattle.centralized_telescope.specs.laws.TestLaws.{neither, lt-or-le}
-use Rattle.centralized_telescope.specs.Lists.{Ascending, Each, someOf, firstOf, upToFirst, firstNumber, over}
+use Rattle.centralized_telescope.specs.core.Lists.{Ascending, Each, someOf, firstOf, upToFirst, over}
 
 -- a list in order followed by another, each of whose elements comes after all of the first
 pub pairwise-append : {A : Type 0} (R : A → A → Type 0) (xs ys : List A) → Ascending R xs → Ascending R ys
@@ -33,7 +33,8 @@ getD-map f [] i b a l = absurd (omega arith)
 getD-map f (x ∷ xs) zero b a l = refl
 getD-map f (x ∷ xs) (suc i) b a l = getD-map f xs i b a (omega arith)
 
-pub map-more : {A B : Type 0} (f : A → B) (xs : List A) (i : ℕ) (a : A) → i < length xs → map f (take (i + 1) xs) ≡ map f (take i xs) ++ (f (getD xs i a) ∷ [])
+pub map-more : {A B : Type 0} (f : A → B) (xs : List A) (i : ℕ) (a : A) → i < length xs
+    → map f (take (i + 1) xs) ≡ map f (take i xs) ++ (f (getD xs i a) ∷ [])
 map-more f xs i a h = rw (add-one, take-suc xs i a h) (map-append f (take i xs) (getD xs i a ∷ []))
 
 -- ---- parts: a slice of a list from one place up to another, and what stands behind a place
@@ -61,15 +62,16 @@ take-part f t l h = sym (take-append-drop f (take t l)) ∙ rw (take-take f t l 
 
 -- lists that agree behind a place agree behind a later one
 pub agree-on : (a b : ℕ) (x y : List ℕ) → a ≤ b → drop a x ≡ drop a y → drop b x ≡ drop b y
-agree-on a b x y l e = let q : a + (b - a) ≡ b = omega arith in rw q at (sym (drop-drop (b - a) a x) ∙ ap (drop (b - a)) e ∙ drop-drop (b - a) a y)
+agree-on a b x y l e =
+    let q : a + (b - a) ≡ b = omega arith in rw q at (sym (drop-drop (b - a) a x) ∙ ap (drop (b - a)) e ∙ drop-drop (b - a) a y)
 
 -- ---- numbers written over the first ones of a list
 
 -- one number more behind k of them
-pub store-behind : (xs lent : List ℕ) (k v : ℕ) → length xs ≡ k → k < length lent
-    → set (xs ++ drop k lent) k v ≡ (xs ++ (v ∷ [])) ++ drop (k + 1) lent
-store-behind xs lent k v e h =
-    rw (drop-cons lent k 0 h, set-at xs (getD lent k 0) (drop (suc k) lent) v k e, add-one, append-assoc xs)
+pub store-behind : (xs buffer : List ℕ) (k v : ℕ) → length xs ≡ k → k < length buffer
+    → set (xs ++ drop k buffer) k v ≡ (xs ++ (v ∷ [])) ++ drop (k + 1) buffer
+store-behind xs buffer k v e h =
+    rw (drop-cons buffer k 0 h, set-at xs (getD buffer k 0) (drop (suc k) buffer) v k e, add-one, append-assoc xs)
 
 -- of a list that is copied
 pub copy-more : (p d : List ℕ) (i : ℕ) → i < length d → i < length p
@@ -77,11 +79,11 @@ pub copy-more : (p d : List ℕ) (i : ℕ) → i < length d → i < length p
 copy-more p d i hd hp =
     store-behind (take i p) d i (getD p i 0) (length-take-le i p (omega arith)) hd ∙ rw (add-one i, take-suc p i 0 hp)
 
-pub over-set : (k v : ℕ) (xs lent : List ℕ) → length xs ≡ k → k < length lent → set (over xs lent) k v ≡ over (xs ++ (v ∷ [])) lent
-over-set k v xs lent e h = rw (length-append xs (v ∷ []), e) (store-behind xs lent k v e h)
+pub over-set : (k v : ℕ) (xs buffer : List ℕ) → length xs ≡ k → k < length buffer → set (over xs buffer) k v ≡ over (xs ++ (v ∷ [])) buffer
+over-set k v xs buffer e h = rw (length-append xs (v ∷ []), e) (store-behind xs buffer k v e h)
 
-pub take-over : (k : ℕ) (xs lent : List ℕ) → length xs ≡ k → take k (over xs lent) ≡ xs
-take-over k xs lent e = take-at xs (drop (length xs) lent) k e
+pub take-over : (k : ℕ) (xs buffer : List ℕ) → length xs ≡ k → take k (over xs buffer) ≡ xs
+take-over k xs buffer e = take-at xs (drop (length xs) buffer) k e
 
 -- ---- what is said of each
 
@@ -131,7 +133,8 @@ module _ {A : Type 0} (test : A → Bool) where
   first-none [] e x m t = List·Memᴰ·not-nil m
   first-none (y ∷ xs) e x m t = go (test y) refl e (first-none xs)
     where
-      go : (b : Bool) → test y ≡ b → cond b (some y) (firstOf test xs) ≡ none → (firstOf test xs ≡ none → (x : A) → List·Memᴰ x xs → test x ≡ true → ⊥) → ⊥
+      go : (b : Bool) → test y ≡ b → cond b (some y) (firstOf test xs) ≡ none
+          → (firstOf test xs ≡ none → (x : A) → List·Memᴰ x xs → test x ≡ true → ⊥) → ⊥
       go true q e rest = let z : _≡_ {A = ℕ} 0 1 = cc in omega arith
       go false q e rest =
           ⊎-elim (λ r. subst T (sym t ∙ ap test r ∙ q) tt) (λ l. rest e x l t) (List·Memᴰ·cases-cons m)
@@ -147,13 +150,15 @@ module _ {A : Type 0} (test : A → Bool) where
   first-some R [] p x e = let z : _≡_ {A = ℕ} 0 1 = cc in absurd (omega arith)
   first-some R (y ∷ xs) p x e = go (test y) refl e (first-some R xs (p .1) x)
     where
-      go : (b : Bool) → test y ≡ b → cond b (some y) (firstOf test xs) ≡ some x → (firstOf test xs ≡ some x → First R xs x) → First R (y ∷ xs) x
+      go : (b : Bool) → test y ≡ b → cond b (some y) (firstOf test xs) ≡ some x → (firstOf test xs ≡ some x → First R xs x)
+          → First R (y ∷ xs) x
       go true q e rest =
           let z : x ≡ y = cc in
           record {
             among = List·Memᴰ·head z;
             yes = ap test z ∙ q;
-            first = λ d m t. ⊎-elim (λ r. inl (z ∙ sym r)) (λ l. inr (subst (λ (w : A). R w d) (sym z) (p .0 d l))) (List·Memᴰ·cases-cons m);
+            first = λ d m t. ⊎-elim (λ r. inl (z ∙ sym r)) (λ l. inr (subst (λ (w : A). R w d) (sym z) (p .0 d l)))
+                (List·Memᴰ·cases-cons m);
           }
       go false q e rest =
           let f = rest e in
@@ -174,7 +179,8 @@ module _ {A : Type 0} (test : A → Bool) where
   length-prefix [] = refl
   length-prefix (x ∷ xs) = go (test x) (length-prefix xs)
     where
-      go : (b : Bool) → length (prefixTo xs) ≡ upToFirst test xs → length (cond b (x ∷ []) (x ∷ prefixTo xs)) ≡ cond b 1 (1 + upToFirst test xs)
+      go : (b : Bool) → length (prefixTo xs) ≡ upToFirst test xs
+          → length (cond b (x ∷ []) (x ∷ prefixTo xs)) ≡ cond b 1 (1 + upToFirst test xs)
       go true e = refl
       go false e = omega arith
 
@@ -183,7 +189,8 @@ module _ {A : Type 0} (test : A → Bool) where
   prefix-among [] c m = m
   prefix-among (x ∷ xs) c m = go (test x) (prefix-among xs c) m
     where
-      go : (b : Bool) → (List·Memᴰ c (prefixTo xs) → List·Memᴰ c xs) → List·Memᴰ c (cond b (x ∷ []) (x ∷ prefixTo xs)) → List·Memᴰ c (x ∷ xs)
+      go : (b : Bool) → (List·Memᴰ c (prefixTo xs) → List·Memᴰ c xs) → List·Memᴰ c (cond b (x ∷ []) (x ∷ prefixTo xs))
+          → List·Memᴰ c (x ∷ xs)
       go true rest m = ⊎-elim (λ e. List·Memᴰ·head e) (λ l. absurd (List·Memᴰ·not-nil l)) (List·Memᴰ·cases-cons m)
       go false rest m = ⊎-elim (λ e. List·Memᴰ·head e) (λ l. List·Memᴰ·tail (rest l)) (List·Memᴰ·cases-cons m)
 
@@ -224,7 +231,8 @@ module _ {A : Type 0} (test : A → Bool) where
           → List·Memᴰ c (prefixTo xs)
       unfolding prefixTo Ascending
       before-prefix [] p c m u = m
-      before-prefix (x ∷ xs) p c m u = go (test x) refl (List·Memᴰ·cases-cons m) (λ k. before-prefix xs (p .1) c k (λ d l t. u d (List·Memᴰ·tail l) t))
+      before-prefix (x ∷ xs) p c m u =
+          go (test x) refl (List·Memᴰ·cases-cons m) (λ k. before-prefix xs (p .1) c k (λ d l t. u d (List·Memᴰ·tail l) t))
         where
           go : (b : Bool) → test x ≡ b → (c ≡ x) ⊎ List·Memᴰ c xs → (List·Memᴰ c xs → List·Memᴰ c (prefixTo xs))
               → List·Memᴰ c (cond b (x ∷ []) (x ∷ prefixTo xs))
@@ -246,7 +254,8 @@ module _ {A : Type 0} (R : A → A → Type 0) (asymmetric : (a b : A) → R a b
       (λ e.
       let rest = no-longer ys xs (p .1) (q .1)
       (λ z m.
-      ⊎-elim (λ r. absurd (let s : R x x = subst (λ (w : A). R x w) (r ∙ sym e) (p .0 z m) in asymmetric x x s s)) (λ l. l) (List·Memᴰ·cases-cons (u z (List·Memᴰ·tail m)))) in
+      ⊎-elim (λ r. absurd (let s : R x x = subst (λ (w : A). R x w) (r ∙ sym e) (p .0 z m) in asymmetric x x s s)) (λ l. l)
+      (List·Memᴰ·cases-cons (u z (List·Memᴰ·tail m)))) in
       omega arith)
       (λ n.
       let rest = no-longer ys (x ∷ xs) p (q .1)
@@ -260,37 +269,3 @@ module _ {A : Type 0} (R : A → A → Type 0) (asymmetric : (a b : A) → R a b
       (List·Memᴰ·cases-cons (u z m))) in
       omega arith)
       (List·Memᴰ·cases-cons (u x (List·Memᴰ·head refl)))
-
--- ---- the first number that isn't 0: a table's lines, met from the top
-
-pub number-passed : (k : ℕ) (ks : List ℕ) → k ≡ 0 → firstNumber (k ∷ ks) ≡ firstNumber ks
-unfolding firstNumber
-number-passed k ks e = rw (eq-eqb k 0 e)
-
-pub number-met : (k : ℕ) (ks : List ℕ) (r : ℕ) → k ≡ r → (r ≡ 0 → ⊥) → firstNumber (k ∷ ks) ≡ r
-unfolding firstNumber
-number-met k ks r e n = rw (e, ne-eqb r 0 n)
-
--- the second line
-pub second-met : (j k : ℕ) (ks : List ℕ) (r : ℕ) → j ≡ 0 → k ≡ r → (r ≡ 0 → ⊥) → firstNumber (j ∷ k ∷ ks) ≡ r
-second-met j k ks r f e n = number-passed j (k ∷ ks) f ∙ number-met k ks r e n
-
-pub two-passed : (j k : ℕ) (ks : List ℕ) → j ≡ 0 → k ≡ 0 → firstNumber (j ∷ k ∷ ks) ≡ firstNumber ks
-two-passed j k ks f e = number-passed j (k ∷ ks) f ∙ number-passed k ks e
-
-pub number-last : (k : ℕ) → firstNumber (k ∷ []) ≡ k
-unfolding firstNumber
-number-last k = go (eqb k 0) refl
-  where
-    go : (b : Bool) → eqb k 0 ≡ b → cond b 0 k ≡ k
-    go true e = sym (eqb-true k 0 e)
-    go false e = refl
-
--- where all are 0
-pub number-none : (k : ℕ) (ks : List ℕ) → firstNumber (k ∷ ks) ≡ 0 → (k ≡ 0) × (firstNumber ks ≡ 0)
-unfolding firstNumber
-number-none k ks = go (eqb k 0) refl
-  where
-    go : (b : Bool) → eqb k 0 ≡ b → cond b (firstNumber ks) k ≡ 0 → (k ≡ 0) × (firstNumber ks ≡ 0)
-    go true e n = (eqb-true k 0 e, n)
-    go false e n = absurd (eqb-false k 0 e n)

@@ -8,17 +8,18 @@ use Prim.Native.Nat.{ℕ, zero, suc, _+_, _*_, min}
 use native.Mathlib.Omega.{arith}
 use lib.Dec.{eqb, leb}
 use lib.ListN.{length, take, length-append}
-use Rattle.sampling.specs.Fips180.{sha256}
+use Rattle.sampling.specs.core.Fips180.{sha256}
 use Rattle.sampling.specs.laws.SampleLaws.{none-below}
 use Rattle.centralized_telescope.specs.declared.params.Params.{Params}
 use Rattle.centralized_telescope.specs.laws.TestLaws.{either-way}
-use Rattle.centralized_telescope.specs.Elements.{Element}
-use Rattle.centralized_telescope.specs.Lists.{firstOf, upToFirst}
-use Rattle.centralized_telescope.specs.Rounds.{proofLabel, startHash, saysYes}
+use Rattle.centralized_telescope.specs.core.Elements.{Element}
+use Rattle.centralized_telescope.specs.core.Lists.{firstOf, upToFirst}
+use Rattle.centralized_telescope.specs.core.Rounds.{proofLabel, startHash, saysYes}
 use Rattle.centralized_telescope.specs.laws.RoundsLaws.{drawnBelow-one, binOf-one}
-use Rattle.centralized_telescope.specs.Bins.{placesFrom}
-use Rattle.centralized_telescope.specs.Chains.{Try, tryOf, Chain}
-use Rattle.centralized_telescope.specs.Search.{binList, placesIn, nextAt, idOf, grown, along, chains, chainsAt, chainsFrom, existing, passing, tryCount, tryFinds, unlessFound, triesFrom}
+use Rattle.centralized_telescope.specs.core.Bins.{placesFrom}
+use Rattle.centralized_telescope.specs.core.Chains.{Try, tryOf, Chain}
+use Rattle.centralized_telescope.specs.core.Search.{binList, placesIn, nextAt, idOf, grown, along, chains, chainsAt, chainsFrom}
+use Rattle.centralized_telescope.specs.core.Search.{existing, passing, tryCount, tryFinds, unlessFound, triesFrom}
 
 -- 1 + m + m^2 + .. + m^k: the chains of at most k places, all of them out of m
 unfoldable pub treeSize : ℕ → ℕ → ℕ
@@ -74,7 +75,8 @@ module _ (T : Try) (one : T .settings .«set_size» ≡ 1) where
   unfolding chainsFrom chainsAt grown
   length-from zero S = omega arith
   length-from (suc w) S =
-      rw (id-zero (startHash (T .retry) S), length-append) (omega (arith, length-chains S (T .settings .«proof_size») (startHash (T .retry) S) [], length-from w (S + 1)))
+      rw (id-zero (startHash (T .retry) S), length-append)
+      (omega (arith, length-chains S (T .settings .«proof_size») (startHash (T .retry) S) [], length-from w (S + 1)))
 
   -- ---- and where nothing passes
 
@@ -83,14 +85,16 @@ module _ (T : Try) (one : T .settings .«set_size» ≡ 1) where
     unfolding passing
     passing-never c = rw (no (c .last)) (either-way (eqb (length (c .places)) (T .settings .«proof_size»)) false)
 
-    pub count-whole : tryCount T ≡ min (T .settings .«search_width» * treeSize (length (T .kept)) (T .settings .«proof_size»)) (T .settings .«dfs_bound»)
+    pub count-whole : tryCount T ≡ min (T .settings .«search_width» * treeSize (length (T .kept)) (T .settings .«proof_size»))
+        (T .settings .«dfs_bound»)
     unfolding tryCount
     count-whole = rw (all-counted (passing T) passing-never (existing T), length-from (T .settings .«search_width») 0)
 
     pub none-found : tryFinds T ≡ none
     unfolding tryFinds
     none-found =
-        rw (first-never (passing T) passing-never (existing T)) (either-way (leb (upToFirst (passing T) (existing T)) (T .settings .«dfs_bound»)) none)
+        rw (first-never (passing T) passing-never (existing T))
+        (either-way (leb (upToFirst (passing T) (existing T)) (T .settings .«dfs_bound»)) none)
 
 -- ---- tries of which none finds: all are made
 

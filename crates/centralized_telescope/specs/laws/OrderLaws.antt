@@ -4,7 +4,7 @@ use mathlib.Core.Logic.{inl, inr, ⊎-elim}
 use mathlib.Core.List.{List, [], _∷_, _++_, append-assoc, append-nil}
 use Prim.Native.Nat.{ℕ, _<_}
 use native.Mathlib.Omega.{arith}
-use Rattle.centralized_telescope.specs.Chains.{Chain, PlacesBefore, Before}
+use Rattle.centralized_telescope.specs.core.Chains.{Chain, PlacesBefore, Before}
 
 -- ---- extensions
 
@@ -48,7 +48,8 @@ pub before-transitive : (a b c : Chain) → Before a b → Before b c → Before
 before-transitive a b c p q =
     ⊎-elim
     (λ l. ⊎-elim (λ k. inl (omega arith)) (λ k. inl (omega (arith, k .0))) q)
-    (λ l. ⊎-elim (λ k. inl (omega (arith, l .0))) (λ k. inr (l .0 ∙ k .0, places-transitive (a .places) (b .places) (c .places) (l .1) (k .1))) q)
+    (λ l. ⊎-elim (λ k. inl (omega (arith, l .0)))
+    (λ k. inr (l .0 ∙ k .0, places-transitive (a .places) (b .places) (c .places) (l .1) (k .1))) q)
     p
 
 pub before-irreflexive : (c : Chain) → Before c c → ⊥

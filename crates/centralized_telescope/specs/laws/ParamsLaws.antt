@@ -7,7 +7,9 @@ use borrow.Author.Tests.{le-ltb, ltb-false}
 use lib.Dec.{ltb}
 use Rattle.centralized_telescope.specs.declared.params.Params.{Params}
 use Rattle.centralized_telescope.specs.laws.TestLaws.{neither}
-use Rattle.centralized_telescope.specs.Params.{notOneTo, setSizeOut, limitBroken, checked}
+use Rattle.sampling.specs.core.FirstNumber.{firstNumber}
+use Rattle.centralized_telescope.specs.core.Params.{notOneTo, setSizeOut, limitBroken, checked, maxSetSize, maxProofSize, maxRetries}
+use Rattle.centralized_telescope.specs.core.Params.{maxSearchWidth, maxDfsBound}
 
 -- ---- a range
 
@@ -20,52 +22,52 @@ module _ {hi n : ℕ} where
 
 -- the whole numbers' limits
 pub record Limits (p : Params) : Type 0 where
-  pub proof-size : p .«proof_size» ≤ 1024
-  pub max-retries : p .«max_retries» ≤ 65535
-  pub search-width : p .«search_width» ≤ 2 ^ 32 - 1
-  pub dfs-bound : p .«dfs_bound» ≤ 2 ^ 48
+  pub proof-size : p .«proof_size» ≤ maxProofSize
+  pub max-retries : p .«max_retries» ≤ maxRetries
+  pub search-width : p .«search_width» ≤ maxSearchWidth
+  pub dfs-bound : p .«dfs_bound» ≤ maxDfsBound
 
 -- all that settings keep which pass the check
 pub record Lawful (p : Params) : Type 0 where
-  pub set-size : (1 ≤ p .«set_size») × (p .«set_size» ≤ 32768)
+  pub set-size : (1 ≤ p .«set_size») × (p .«set_size» ≤ maxSetSize)
   pub limits : Limits p
 
 module _ (p : Params) where
   pub limits-kept : limitBroken p ≡ false → Limits p
   unfolding limitBroken
   limits-kept e =
-      let a = neither (ltb 1024 (p .«proof_size»)) e in
-      let b = neither (ltb 65535 (p .«max_retries»)) (a .1) in
-      let c = neither (ltb (2 ^ 32 - 1) (p .«search_width»)) (b .1) in
+      let a = neither (ltb maxProofSize (p .«proof_size»)) e in
+      let b = neither (ltb maxRetries (p .«max_retries»)) (a .1) in
+      let c = neither (ltb maxSearchWidth (p .«search_width»)) (b .1) in
       record {
-        proof-size = ltb-false 1024 (p .«proof_size») (a .0);
-        max-retries = ltb-false 65535 (p .«max_retries») (b .0);
-        search-width = ltb-false (2 ^ 32 - 1) (p .«search_width») (c .0);
-        dfs-bound = ltb-false (2 ^ 48) (p .«dfs_bound») (c .1);
+        proof-size = ltb-false maxProofSize (p .«proof_size») (a .0);
+        max-retries = ltb-false maxRetries (p .«max_retries») (b .0);
+        search-width = ltb-false maxSearchWidth (p .«search_width») (c .0);
+        dfs-bound = ltb-false maxDfsBound (p .«dfs_bound») (c .1);
       }
 
   pub within-limits : Limits p → limitBroken p ≡ false
   unfolding limitBroken
   within-limits l =
       rw (
-        le-ltb 1024 (p .«proof_size») (l .proof-size),
-        le-ltb 65535 (p .«max_retries») (l .max-retries),
-        le-ltb (2 ^ 32 - 1) (p .«search_width») (l .search-width),
-        le-ltb (2 ^ 48) (p .«dfs_bound») (l .dfs-bound),
+        le-ltb maxProofSize (p .«proof_size») (l .proof-size),
+        le-ltb maxRetries (p .«max_retries») (l .max-retries),
+        le-ltb maxSearchWidth (p .«search_width») (l .search-width),
+        le-ltb maxDfsBound (p .«dfs_bound») (l .dfs-bound),
       )
 
   -- by the tests, in the table's order
   pub set-size-refused : setSizeOut (p .«set_size») ≡ true → checked p ≡ 1
-  unfolding checked
+  unfolding checked firstNumber
   set-size-refused s = rw s
 
   module _ (s : setSizeOut (p .«set_size») ≡ false) where
     pub limit-refused : limitBroken p ≡ true → checked p ≡ 2
-    unfolding checked
+    unfolding checked firstNumber
     limit-refused l = rw (s, l)
 
     pub none-refused : limitBroken p ≡ false → checked p ≡ 0
-    unfolding checked
+    unfolding checked firstNumber
     none-refused l = rw (s, l)
 
     pub passes : Limits p → checked p ≡ 0

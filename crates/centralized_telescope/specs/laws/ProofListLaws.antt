@@ -9,14 +9,18 @@ use borrow.Author.Tests.{eq-eqb, eqb-true, leb-false, le-ltb, ltb-false}
 use lib.Dec.{ltb, leb, eqb}
 use lib.ListN.{length, take, drop, getD, length-append, length-map}
 use lib.Seq.{take-at, drop-at}
+use Rattle.sampling.specs.core.FirstNumber.{firstNumber}
 use Rattle.centralized_telescope.specs.laws.TestLaws.{neither, unsaid}
-use Rattle.centralized_telescope.specs.Elements.{Element, elementsFrom, elements, elementAt, markOf, numberOf, markOver, endWrong}
-use Rattle.centralized_telescope.specs.Elements.{malformed, dataLong, tooLarge, listCheck, Lent, lentOf}
+use Rattle.centralized_telescope.specs.core.Elements.{Element, elementsFrom, elements, elementAt, markOver, endWrong, malformed}
+use Rattle.centralized_telescope.specs.core.Elements.{dataLong, tooLarge, listCheck, Lent, maxDataBytes, maxElements}
+use Rattle.centralized_telescope.specs.later.Words.{markOf, numberOf}
 use Rattle.centralized_telescope.specs.laws.ElementsLaws.{index-again, data-there, bytes-short}
-use Rattle.centralized_telescope.specs.Lists.{Each, someOf}
-use Rattle.centralized_telescope.specs.laws.ListsLaws.{take-over, none-at, each-nil, each-cons, number-none}
-use Rattle.centralized_telescope.specs.ProofList.{joined, endsFrom, marksOf, indexesOf, chosen, placeOut, ProofList, listOver}
-use Rattle.centralized_telescope.specs.ProofList.{writeRefusal, proofList}
+use Rattle.centralized_telescope.specs.core.Lists.{Each, someOf}
+use Rattle.centralized_telescope.specs.laws.ListsLaws.{take-over, none-at, each-nil, each-cons}
+use Rattle.sampling.specs.laws.FirstNumberLaws.{number-none}
+use Rattle.centralized_telescope.specs.later.ProofList.{joinedData, endsFrom, marksOf, indexesOf, chosen, placeOut, ProofList}
+use Rattle.centralized_telescope.specs.later.ProofList.{listOver}
+use Rattle.centralized_telescope.specs.later.ProofList.{writeRefusal, proofList, listOf, overAll, frontOf, withBuffers}
 use Rattle.centralized_telescope.specs.inner.ListReading.{dataOf}
 
 -- ---- a list written out is accepted
@@ -35,27 +39,27 @@ marks-right (e ∷ es) = go (e .index) (marks-right es)
     go none r = r
     go (some n) r = r
 
-ends-rise : (from limit : ℕ) (es : List Element) → from + length (joined es) ≤ limit → endWrong from limit (endsFrom from es) ≡ false
-unfolding endWrong endsFrom joined
+ends-rise : (from limit : ℕ) (es : List Element) → from + length (joinedData es) ≤ limit → endWrong from limit (endsFrom from es) ≡ false
+unfolding endWrong endsFrom joinedData
 ends-rise from limit [] h = refl
 ends-rise from limit (e ∷ es) h =
-    let l : from + (length (e .bytes) + length (joined es)) ≤ limit = omega (arith, length-append (e .bytes) (joined es)) in
+    let l : from + (length (e .bytes) + length (joinedData es)) ≤ limit = omega (arith, length-append (e .bytes) (joinedData es)) in
     rw (le-ltb (from + length (e .bytes)) from (omega arith), le-ltb limit (from + length (e .bytes)) (omega arith))
     (ends-rise (from + length (e .bytes)) limit es (omega arith))
 
 -- an element with no more data than a list may have in one
 abbrev pub Short : Element → Type 0
-Short e = length (e .bytes) ≤ 4096
+Short e = length (e .bytes) ≤ maxDataBytes
 
 none-long : (from : ℕ) (es : List Element) → Each Short es → dataLong from (endsFrom from es) ≡ false
 unfolding dataLong endsFrom Each
 none-long from [] s = refl
 none-long from (e ∷ es) s =
-    rw (le-ltb 4096 (from + length (e .bytes) - from) (omega (arith, s .0))) (none-long (from + length (e .bytes)) es (s .1))
+    rw (le-ltb maxDataBytes (from + length (e .bytes) - from) (omega (arith, s .0))) (none-long (from + length (e .bytes)) es (s .1))
 
-pub accepted-again : (es : List Element) → length es ≤ 65536 → Each Short es
-    → listCheck (lentOf (joined es) (endsFrom 0 es) (marksOf es) (indexesOf es)) ≡ 0
-unfolding listCheck malformed tooLarge
+pub accepted-again : (es : List Element) → length es ≤ maxElements → Each Short es
+    → listCheck (listOf es) ≡ 0
+unfolding firstNumber listCheck malformed tooLarge
 accepted-again es few s =
     let N = length-ends 0 es in
     let M = length-map es (λ (e : Element). markOf (e .index)) in
@@ -64,8 +68,8 @@ accepted-again es few s =
       eq-eqb (length (endsFrom 0 es)) (length (marksOf es)) (N ∙ sym M),
       eq-eqb (length (endsFrom 0 es)) (length (indexesOf es)) (N ∙ sym X),
       marks-right es,
-      ends-rise 0 (length (joined es)) es (omega arith),
-      le-ltb 65536 (length (endsFrom 0 es)) (omega arith),
+      ends-rise 0 (length (joinedData es)) es (omega arith),
+      le-ltb maxElements (length (endsFrom 0 es)) (omega arith),
       none-long 0 es s,
     )
 
@@ -77,21 +81,21 @@ own-bytes before own rest =
     rw (drop-at before (own ++ rest) (length before) refl) (take-at own rest (length before + length own - length before) (omega arith))
 
 elements-from : (before : List ℕ) (es : List Element)
-    → elementsFrom (length before) (before ++ joined es) (endsFrom (length before) es) (marksOf es) (indexesOf es) ≡ es
-unfolding elementsFrom endsFrom joined
+    → elementsFrom (length before) (before ++ joinedData es) (endsFrom (length before) es) (marksOf es) (indexesOf es) ≡ es
+unfolding elementsFrom endsFrom joinedData
 elements-from before [] = refl
 elements-from before (e ∷ es) =
     ap {B = List Element}
-    (λ (k : Element). k ∷ elementsFrom (length before + length (e .bytes)) (before ++ (e .bytes ++ joined es))
+    (λ (k : Element). k ∷ elementsFrom (length before + length (e .bytes)) (before ++ (e .bytes ++ joinedData es))
     (endsFrom (length before + length (e .bytes)) es) (marksOf es) (indexesOf es))
-    (first (own-bytes before (e .bytes) (joined es)) (index-again (e .index)))
+    (first (own-bytes before (e .bytes) (joinedData es)) (index-again (e .index)))
     ∙ ap (λ (l : List Element). e ∷ l)
-    (rw (← append-assoc before (e .bytes) (joined es), ← length-append before (e .bytes)) (elements-from (before ++ e .bytes) es))
+    (rw (← append-assoc before (e .bytes) (joinedData es), ← length-append before (e .bytes)) (elements-from (before ++ e .bytes) es))
   where
     first : {b : List ℕ} {o : Option ℕ} → b ≡ e .bytes → o ≡ e .index → _≡_ {A = Element} (record { bytes = b; index = o }) e
     first B I = rw (B, I)
 
-pub elements-again : (es : List Element) → elements (lentOf (joined es) (endsFrom 0 es) (marksOf es) (indexesOf es)) ≡ es
+pub elements-again : (es : List Element) → elements (listOf es) ≡ es
 elements-again es = elements-from [] es
 
 -- ---- the elements at some places of an accepted list
@@ -112,17 +116,28 @@ module _ (lent : Lent) (A : listCheck lent ≡ 0) where
       let p = place-head (length n) place e in
       each-cons Short (elementAt (elements lent) place) (chosen places lent) (bytes-short lent A place (p .0)) (chosen-short places (p .1))
 
-  pub data-joined : (places : List ℕ) → placeOut (length n) places ≡ false → dataOf d n places ≡ joined (chosen places lent)
-  unfolding someOf dataOf joined
+  pub data-joined : (places : List ℕ) → placeOut (length n) places ≡ false → dataOf d n places ≡ joinedData (chosen places lent)
+  unfolding someOf dataOf joinedData
   data-joined [] e = refl
   data-joined (place ∷ places) e =
       let p = place-head (length n) place e in
       rw (data-there lent A place (p .0), data-joined places (p .1))
 
+-- ---- elements over buffers, and what the buffers begin with then
+
+pub front-over : (es : List Element) (buffers : Lent) (k : ℕ) → length es ≡ k
+    → frontOf (length (joinedData es)) k (overAll (listOf es) buffers) ≡ listOf es
+front-over es buffers k e =
+    rw (
+      take-over (length (joinedData es)) (joinedData es) (buffers .bytes) refl,
+      take-over k (endsFrom 0 es) (buffers .ends) (length-ends 0 es ∙ e),
+      take-over k (marksOf es) (buffers .marks) (length-map es (λ (a : Element). markOf (a .index)) ∙ e),
+      take-over k (indexesOf es) (buffers .indexes) (length-map es (λ (a : Element). numberOf (a .index)) ∙ e),
+    )
+
 -- ---- what `write_proof` writes
 
 module _ (places : List ℕ) (lent : Lent) (buffers : Lent) where
-  open Lent buffers using (bytes as b′, ends as n′, marks as m′, indexes as x′)
   open Lent lent using (ends as n)
 
   abbrev r : ProofList
@@ -140,7 +155,7 @@ module _ (places : List ℕ) (lent : Lent) (buffers : Lent) where
 
       go : (t : Bool) → eqb refusal 0 ≡ t
           → cond t (listOver (chosen places lent) buffers)
-          (record { number = refusal; len = 0; bytes = b′; ends = n′; marks = m′; indexes = x′ }) .number ≡ 0 → refusal ≡ 0
+          (withBuffers refusal 0 buffers) .number ≡ 0 → refusal ≡ 0
       go true e h = eqb-true refusal 0 e
       go false e h = h
 
@@ -149,40 +164,28 @@ module _ (places : List ℕ) (lent : Lent) (buffers : Lent) where
     unfolding proofList
     is-written = rw (eq-eqb (writeRefusal places lent buffers) 0 (number-refusal W))
 
-    refusals : (listCheck lent ≡ 0) × (length places ≤ 65536) × (placeOut (length n) places ≡ false)
+    refusals : (listCheck lent ≡ 0) × (length places ≤ maxElements) × (placeOut (length n) places ≡ false)
     unfolding writeRefusal
     refusals =
         let l = number-none _ _ (number-refusal W) in
         let f = number-none _ _ (l .1) in
         let p = number-none _ _ (f .1) in
-        (l .0, ltb-false 65536 (length places) (unsaid (ltb 65536 (length places)) 4 (f .0)), unsaid (placeOut (length n) places) 3 (p .0))
+        let few = ltb-false maxElements (length places) (unsaid (ltb maxElements (length places)) 4 (f .0)) in
+        (l .0, few, unsaid (placeOut (length n) places) 3 (p .0))
 
-    -- the parts that a caller hands on: so many data bytes, and as many ends, marks and indexes as there are places
-    module _ (E : List ℕ → List ℕ → List ℕ → List ℕ → Type 0) where
-      parts : E (joined es) (endsFrom 0 es) (marksOf es) (indexesOf es)
-          → E (take (r .len) (r .bytes)) (take (length places) (r .ends)) (take (length places) (r .marks))
-          (take (length places) (r .indexes))
-      unfolding listOver
-      parts h =
-          let K = length-map places (elementAt (elements lent)) in
-          rw (
-            is-written,
-            take-over (length (joined es)) (joined es) b′ refl,
-            take-over (length places) (endsFrom 0 es) n′ (length-ends 0 es ∙ K),
-            take-over (length places) (marksOf es) m′ (length-map es (λ (e : Element). markOf (e .index)) ∙ K),
-            take-over (length places) (indexesOf es) x′ (length-map es (λ (e : Element). numberOf (e .index)) ∙ K),
-          ) h
+    -- the list that a caller hands on
+    abbrev own : Lent
+    own = frontOf (r .len) (length places) (r .buffers)
 
-    pub written-accepted : listCheck
-        (lentOf (take (r .len) (r .bytes)) (take (length places) (r .ends)) (take (length places) (r .marks))
-        (take (length places) (r .indexes))) ≡ 0
+    own-is : own ≡ listOf es
+    unfolding listOver
+    own-is = rw is-written (front-over es buffers (length places) (length-map places (elementAt (elements lent))))
+
+    pub written-accepted : listCheck own ≡ 0
     written-accepted =
-        parts (λ (b e k i : List ℕ). listCheck (lentOf b e k i) ≡ 0)
+        rw own-is
         (accepted-again es (omega (arith, refusals .1, length-map places (elementAt (elements lent))))
         (chosen-short lent (refusals .0) places (refusals .2)))
 
-    pub written-elements : elements
-        (lentOf (take (r .len) (r .bytes)) (take (length places) (r .ends)) (take (length places) (r .marks))
-        (take (length places) (r .indexes)))
-        ≡ map (elementAt (elements lent)) places
-    written-elements = parts (λ (b e k i : List ℕ). elements (lentOf b e k i) ≡ es) (elements-again es)
+    pub written-elements : elements own ≡ map (elementAt (elements lent)) places
+    written-elements = ap elements own-is ∙ elements-again es

@@ -3,37 +3,39 @@ use mathlib.Core.Path.{_≡_, refl, sym, ap, _∙_, subst}
 use mathlib.Core.Bool.{true, false}
 use mathlib.Core.Logic.{inl, inr}
 use Prim.Native.Nat.{ℕ, zero, suc, _+_, _*_, _^_, _≤_, _<_}
-use native.Mathlib.Nat.{mul-comm, mul-le-mul, mul-le-mul-left, mul-le-mul-right, le-trans, lt-of-le-of-lt, eq-or-lt-of-le, pow-suc, pow-le-pow-left, pow-le-pow-right}
+use native.Mathlib.Nat.{mul-comm, mul-le-mul, mul-le-mul-left, mul-le-mul-right, le-trans, lt-of-le-of-lt, eq-or-lt-of-le, pow-suc}
+use native.Mathlib.Nat.{pow-le-pow-left, pow-le-pow-right}
 use native.Mathlib.Numerals.{add-one}
 use native.Mathlib.Omega.{arith}
 use borrow.Author.Tests.{ltb-true, ltb-false, leb-false}
 use lib.Dec.{ltb, lit<}
-use Rattle.centralized_telescope.specs.Params.{notOneTo}
+use Rattle.centralized_telescope.specs.core.Params.{notOneTo, maxSetSize, maxProofSize}
 use Rattle.centralized_telescope.specs.laws.TestLaws.{neither, lt-or-le, not-both}
 use Rattle.centralized_telescope.specs.laws.ParamsLaws.{one-to}
-use Rattle.centralized_telescope.specs.ProofSize.{Meets, figuresOut, Smallest, NoSize, SizeIs, InRange, NoLess, sizeNeverFalls, sizeNeverRises}
+use Rattle.centralized_telescope.specs.later.ProofSize.{Meets, figuresOut, Smallest, NoSize, SizeIs, InRange, NoLess, sizeNeverFalls}
+use Rattle.centralized_telescope.specs.later.ProofSize.{sizeNeverRises, maxSoundness, maxFigure}
 use Rattle.centralized_telescope.specs.laws.DigitsLaws.{base, power-more}
 use Rattle.centralized_telescope.specs.inner.Digits.{NotAbove, SmallestOrNone}
 
 -- all that figures in range keep
 pub record Ranges (s c n f : ℕ) : Type 0 where
-  pub soundness : s ≤ 256
-  pub completeness : (1 ≤ c) × (c ≤ 1024)
-  pub set-size : (2 ≤ n) × (n ≤ 32768)
+  pub soundness : s ≤ maxSoundness
+  pub completeness : (1 ≤ c) × (c ≤ maxFigure)
+  pub set-size : (2 ≤ n) × (n ≤ maxSetSize)
   pub bound : (1 ≤ f) × (f < n)
 
 pub ranges : (s c n f : ℕ) → figuresOut s c n f ≡ false → Ranges s c n f
 unfolding figuresOut
 ranges s c n f e =
-    let a = neither (ltb 256 s) e in
-    let b = neither (notOneTo 1024 c) (a .1) in
+    let a = neither (ltb maxSoundness s) e in
+    let b = neither (notOneTo maxFigure c) (a .1) in
     let d = neither (ltb n 2) (b .1) in
-    let g = neither (ltb 32768 n) (d .1) in
+    let g = neither (ltb maxSetSize n) (d .1) in
     let h = neither (ltb f 1) (g .1) in
     record {
-      soundness = ltb-false 256 s (a .0);
+      soundness = ltb-false maxSoundness s (a .0);
       completeness = one-to (b .0);
-      set-size = (ltb-false n 2 (d .0), ltb-false 32768 n (g .0));
+      set-size = (ltb-false n 2 (d .0), ltb-false maxSetSize n (g .0));
       bound = (ltb-false f 1 (h .0), leb-false n f (h .1));
     }
 
@@ -70,31 +72,33 @@ module _ (A n B f u : ℕ) where
         let b = r ∙ power-more B f u in
         ((λ h. rw (← a, ← b) h), (λ h. rw (a, b) h))
 
-    pub found-here : u < 1024 → ltb L R ≡ false → ((v : ℕ) → 1 ≤ v → v ≤ u → NotAbove A n B f v → ⊥) → SmallestOrNone A n B f (u + 1)
+    pub found-here : u < maxProofSize → ltb L R ≡ false → ((v : ℕ) → 1 ≤ v → v ≤ u → NotAbove A n B f v → ⊥)
+        → SmallestOrNone A n B f (u + 1)
     unfolding SmallestOrNone
     found-here h t none =
         let m = at-next .0 (ltb-false L R t) in
         subst (SmallestOrNone A n B f) (sym (add-one u)) (h, subst (NotAbove A n B f) (add-one u) m, λ v a b. none v a (omega arith))
 
-    pub none-here : ltb L R ≡ true → ((v : ℕ) → 1 ≤ v → v ≤ u → NotAbove A n B f v → ⊥) → (v : ℕ) → 1 ≤ v → v ≤ u + 1 → NotAbove A n B f v → ⊥
+    pub none-here : ltb L R ≡ true → ((v : ℕ) → 1 ≤ v → v ≤ u → NotAbove A n B f v → ⊥)
+        → (v : ℕ) → 1 ≤ v → v ≤ u + 1 → NotAbove A n B f v → ⊥
     none-here t none v a b m = elim (eq-or-lt-of-le b) [
       | inl e ↦ let below = ltb-true L R t in let least = at-next .1 (subst (NotAbove A n B f) e m) in omega arith
       | inr g ↦ none v a (omega arith) m
     ]
 
-  pub none-at-all : 1024 ≤ u → ((v : ℕ) → 1 ≤ v → v ≤ u → NotAbove A n B f v → ⊥) → SmallestOrNone A n B f 0
+  pub none-at-all : maxProofSize ≤ u → ((v : ℕ) → 1 ≤ v → v ≤ u → NotAbove A n B f v → ⊥) → SmallestOrNone A n B f 0
   unfolding SmallestOrNone
   none-at-all h none v a b = none v a (omega arith)
 
 -- ---- that both stay within 512 digits
 
-pub left-room : (n : ℕ) → n ≤ 32768 → 1442695 * n ^ 1024 < base ^ 512
-left-room n h = lt-of-le-of-lt (mul-le-mul-left 1442695 (pow-le-pow-left h 1024)) (lit< tt)
+pub left-room : (n : ℕ) → n ≤ maxSetSize → 1442695 * n ^ maxProofSize < base ^ 512
+left-room n h = lt-of-le-of-lt (mul-le-mul-left 1442695 (pow-le-pow-left h maxProofSize)) (lit< tt)
 
-pub first-room : (c : ℕ) → c ≤ 1024 → 1000000 * (32 * c) < base ^ 512
+pub first-room : (c : ℕ) → c ≤ maxFigure → 1000000 * (32 * c) < base ^ 512
 first-room c h = let m : 1000000 * (32 * c) ≤ 32768000000 = omega arith in lt-of-le-of-lt m (lit< tt)
 
-module _ (s c : ℕ) (hs : s ≤ 256) (hc : c ≤ 1024) where
+module _ (s c : ℕ) (hs : s ≤ maxSoundness) (hc : c ≤ maxFigure) where
   doubled-most : 1000000 * (32 * c) * 2 ^ s ≤ 32768000000 * 2 ^ 256
   doubled-most =
       let m : 1000000 * (32 * c) ≤ 32768000000 = omega arith in
@@ -103,8 +107,8 @@ module _ (s c : ℕ) (hs : s ≤ 256) (hc : c ≤ 1024) where
   pub doubled-room : 1000000 * (32 * c) * 2 ^ s < base ^ 512
   doubled-room = lt-of-le-of-lt doubled-most (lit< tt)
 
-  pub right-room : (f : ℕ) → f ≤ 32768 → 1000000 * (32 * c) * 2 ^ s * f ^ 1024 < base ^ 512
-  right-room f h = lt-of-le-of-lt (mul-le-mul doubled-most (pow-le-pow-left h 1024)) (lit< tt)
+  pub right-room : (f : ℕ) → f ≤ maxSetSize → 1000000 * (32 * c) * 2 ^ s * f ^ maxProofSize < base ^ 512
+  right-room f h = lt-of-le-of-lt (mul-le-mul doubled-most (pow-le-pow-left h maxProofSize)) (lit< tt)
 
 -- ---- the search's answer is the size's
 
@@ -128,7 +132,8 @@ module _ (s c n f : ℕ) where
 meets-less : (s c n f s′ c′ f′ u : ℕ) → s ≤ s′ → c ≤ c′ → f ≤ f′ → Meets s′ c′ n f′ u → Meets s c n f u
 meets-less s c n f s′ c′ f′ u hs hc hf m =
     le-trans
-    (mul-le-mul-right 1000000 (mul-le-mul (mul-le-mul (pow-le-pow-left hf u) (pow-le-pow-right {n = 2} (omega arith) {i = s + 5} {j = s′ + 5} (omega arith))) hc))
+    (mul-le-mul-right 1000000
+    (mul-le-mul (mul-le-mul (pow-le-pow-left hf u) (pow-le-pow-right {n = 2} (omega arith) {i = s + 5} {j = s′ + 5} (omega arith))) hc))
     m
 
 meets-more : (s c n f n′ u : ℕ) → n ≤ n′ → Meets s c n f u → Meets s c n′ f u

@@ -3,7 +3,7 @@ use mathlib.Core.Path.{_≡_}
 use native.Mathlib.Omega.{arith}
 use Rattle.centralized_telescope.specs.declared.errors.Refusal.{Refusal}
 use Rattle.centralized_telescope.specs.declared.errors.Refusal.the-variants as refusal
-use Rattle.centralized_telescope.specs.Refusals.{refusalNumber}
+use Rattle.centralized_telescope.specs.core.Refusals.{refusalNumber}
 
 pub refusal-number : (k : Refusal) → refusalNumber k ≡ 0 → ⊥
 refusal-number refusal.SetSize e = omega arith

@@ -8,10 +8,10 @@ use native.Mathlib.Omega.{arith}
 use borrow.Author.Tests.{eqb-true}
 use lib.Dec.{eqb}
 use lib.ListN.{take}
-use Rattle.sampling.specs.Sample.{uniform}
+use Rattle.sampling.specs.core.Sample.{uniform}
 use Rattle.sampling.specs.laws.SampleLaws.{drawn-below, drawn-of-one}
-use Rattle.centralized_telescope.specs.Elements.{Element}
-use Rattle.centralized_telescope.specs.Rounds.{drawn, drawnBelow, binOf}
+use Rattle.centralized_telescope.specs.core.Elements.{Element}
+use Rattle.centralized_telescope.specs.core.Rounds.{drawn, drawnBelow, binOf}
 
 -- ---- what is drawn is below n, and with n = 1 it is 0
 

@@ -1,20 +1,21 @@
 -- Laws of a try's list of existing chains: it holds exactly those that exist, each once, in the search's order.
 use mathlib.Core.Path.{_≡_, refl, ap, sym, _∙_, subst}
 use mathlib.Core.Logic.{inl, inr, ⊎-elim}
-use mathlib.Core.List.{List, [], _∷_, _++_, map, append-assoc, append-nil, List·Memᴰ, List·Memᴰ·head, List·Memᴰ·tail, List·Memᴰ·cases-cons, List·Memᴰ·append-cases, List·Memᴰ·not-nil, Memᴰ·cast, Memᴰ·append-left, Memᴰ·append-right}
+use mathlib.Core.List.{List, [], _∷_, _++_, map, append-assoc, append-nil, List·Memᴰ, List·Memᴰ·head, List·Memᴰ·tail, List·Memᴰ·cases-cons}
+use mathlib.Core.List.{List·Memᴰ·append-cases, List·Memᴰ·not-nil, Memᴰ·cast, Memᴰ·append-left, Memᴰ·append-right}
 use mathlib.Core.Option.{Option, none, some}
 use Prim.Native.Nat.{ℕ, zero, suc, _+_, _≤_, _<_}
 use native.Mathlib.Nat.{eq-or-lt-of-le}
 use native.Mathlib.Omega.{arith}
 use lib.ListN.{length}
-use Rattle.centralized_telescope.specs.Elements.{Element, elementAt}
-use Rattle.centralized_telescope.specs.Lists.{Ascending, Each}
+use Rattle.centralized_telescope.specs.core.Elements.{Element, elementAt}
+use Rattle.centralized_telescope.specs.core.Lists.{Ascending, Each}
 use Rattle.centralized_telescope.specs.laws.ListsLaws.{pairwise-append, each-nil, each-cons, each-head, each-rest}
-use Rattle.centralized_telescope.specs.Rounds.{startHash}
-use Rattle.centralized_telescope.specs.Chains.{Try, Chain, Grows, ElementsExist, Exists, PlacesBefore, Before}
+use Rattle.centralized_telescope.specs.core.Rounds.{startHash}
+use Rattle.centralized_telescope.specs.core.Chains.{Try, Chain, Grows, ElementsExist, Exists, PlacesBefore, Before}
 use Rattle.centralized_telescope.specs.laws.OrderLaws.{forked, longer}
 use Rattle.centralized_telescope.specs.laws.TryLaws.{id-below, in-bin, bin-in, bin-ascends}
-use Rattle.centralized_telescope.specs.Search.{placesIn, nextAt, idOf, grown, along, chains, chainsAt, chainsFrom, existing}
+use Rattle.centralized_telescope.specs.core.Search.{placesIn, nextAt, idOf, grown, along, chains, chainsAt, chainsFrom, existing}
 
 abbrev chain : ℕ → List ℕ → List ℕ → Chain
 chain S places last = record { search = S; places = places; last = last }
@@ -50,10 +51,12 @@ module _ (T : Try) where
   along-sound grow h ps [] c m = absurd (List·Memᴰ·not-nil m)
   along-sound grow h ps (e ∷ es) c m =
       ⊎-elim (λ l. go (idOf T (nextAt T h e)) refl l)
-      (λ l. let r = along-sound grow h ps es c l in record { place = r .place; among = List·Memᴰ·tail (r .among); id = r .id; id-is = r .id-is; grows = r .grows })
+      (λ l. let r = along-sound grow h ps es c l in
+      record { place = r .place; among = List·Memᴰ·tail (r .among); id = r .id; id-is = r .id-is; grows = r .grows })
       (List·Memᴰ·append-cases (grown T grow (idOf T (nextAt T h e)) (nextAt T h e) (ps ++ (e ∷ []))) m)
     where
-      go : (d : Option ℕ) → idOf T (nextAt T h e) ≡ d → List·Memᴰ c (grown T grow d (nextAt T h e) (ps ++ (e ∷ []))) → By grow h ps (e ∷ es) c
+      go : (d : Option ℕ) → idOf T (nextAt T h e) ≡ d → List·Memᴰ c (grown T grow d (nextAt T h e) (ps ++ (e ∷ [])))
+          → By grow h ps (e ∷ es) c
       go none q l = absurd (List·Memᴰ·not-nil l)
       go (some j) q l = record { place = e; among = List·Memᴰ·head refl; id = j; id-is = q; grows = l }
 
@@ -64,7 +67,8 @@ module _ (T : Try) where
   along-complete grow h ps [] c e j m q l = absurd (List·Memᴰ·not-nil m)
   along-complete grow h ps (y ∷ es) c e j m q l =
       ⊎-elim (λ r. Memᴰ·append-left (along T grow h ps es) (here r))
-      (λ r. Memᴰ·append-right (grown T grow (idOf T (nextAt T h y)) (nextAt T h y) (ps ++ (y ∷ []))) (along-complete grow h ps es c e j r q l))
+      (λ r. Memᴰ·append-right (grown T grow (idOf T (nextAt T h y)) (nextAt T h y) (ps ++ (y ∷ [])))
+      (along-complete grow h ps es c e j r q l))
       (List·Memᴰ·cases-cons m)
     where
       here : e ≡ y → List·Memᴰ c (grown T grow (idOf T (nextAt T h y)) (nextAt T h y) (ps ++ (y ∷ [])))
@@ -194,7 +198,8 @@ module _ (T : Try) where
   unfolding chainsAt grown
   at-sound S c m = go (idOf T (start S)) refl m
     where
-      go : (d : Option ℕ) → idOf T (start S) ≡ d → List·Memᴰ c (grown T (chains T S (T .settings .«proof_size»)) d (start S) []) → Started S c
+      go : (d : Option ℕ) → idOf T (start S) ≡ d → List·Memᴰ c (grown T (chains T S (T .settings .«proof_size»)) d (start S) [])
+          → Started S c
       go none q l = absurd (List·Memᴰ·not-nil l)
       go (some i) q l =
           let s = sound S (T .settings .«proof_size») (start S) i [] c (id-below T _ _ q) l in

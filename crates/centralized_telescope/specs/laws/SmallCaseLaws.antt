@@ -1,5 +1,5 @@
 -- Laws of the small case: its answer by its tests, and that its settings keep the limits of the check.
-use mathlib.Core.Path.{_≡_, refl, sym, _∙_, subst}
+use mathlib.Core.Path.{_≡_, refl, sym, subst}
 use mathlib.Core.Bool.{Bool, true, false, not, cond, _&&_}
 use mathlib.Core.Logic.{inl, inr}
 use Prim.Native.Nat.{ℕ, _+_, _-_, _*_, _/_, _%_, _^_, _≤_, _<_}
@@ -9,27 +9,32 @@ use borrow.Author.Tests.{ltb-false, le-ltb, eqb-false}
 use lib.Dec.{T, ltb, eqb}
 use lib.Ieee.{Float, nan, inf, fin, binary64, up, down, isNan, lt, ofBits, ofInt, round, add, mul, div}
 use lib.Ieee.Fits.{up-pos, and-l, and-r}
-use Rattle.sampling.specs.Sample.{outside, outsideUnit}
+use Rattle.sampling.specs.core.FirstNumber.{firstNumber}
+use Rattle.sampling.specs.later.Threshold.{outside, outsideUnit}
 use Rattle.centralized_telescope.specs.declared.params.Params.{Params}
 use Rattle.centralized_telescope.specs.declared.params.SmallSettings.{SmallSettings}
-use Rattle.centralized_telescope.specs.Params.{setSizeOut, checked, floor, ceil, asDouble, L, beforeCeil, searchWidth, probability, beforeFloor, dfsBound, smallSettings, zeros, proofSizeOut, completenessOut, smallCase}
+use Rattle.centralized_telescope.specs.core.Params.{setSizeOut, checked, maxProofSize, maxSearchWidth, maxDfsBound}
+use Rattle.centralized_telescope.specs.later.SmallCase.{floor, ceil, asDouble, L, beforeCeil, searchWidth, probability, beforeFloor}
+use Rattle.centralized_telescope.specs.later.SmallCase.{dfsBound, smallSettings, noSettings, proofSizeOut, completenessOut}
+use Rattle.centralized_telescope.specs.later.SmallCase.{smallCaseRefusal, smallCase}
+use Rattle.centralized_telescope.specs.later.SmallCase.{maxCompleteness}
 use Rattle.centralized_telescope.specs.laws.TestLaws.{neither, eachUpTo, from-computed}
 use Rattle.centralized_telescope.specs.laws.ParamsLaws.{one-to, Limits, passes}
 
 -- ---- the small case, by its tests in the table's order
 
 module _ (u : ℕ) (c : Float) where
-  pub proof-size-refused : proofSizeOut u ≡ true → smallCase u c ≡ (30, zeros)
-  unfolding smallCase
+  pub proof-size-refused : proofSizeOut u ≡ true → smallCase u c ≡ (30, noSettings)
+  unfolding smallCase smallCaseRefusal firstNumber
   proof-size-refused s = rw s
 
   module _ (s : proofSizeOut u ≡ false) where
-    pub completeness-refused : completenessOut c ≡ true → smallCase u c ≡ (31, zeros)
-    unfolding smallCase
+    pub completeness-refused : completenessOut c ≡ true → smallCase u c ≡ (31, noSettings)
+    unfolding smallCase smallCaseRefusal firstNumber
     completeness-refused o = rw (s, o)
 
     pub settings-given : completenessOut c ≡ false → smallCase u c ≡ (0, smallSettings u c)
-    unfolding smallCase
+    unfolding smallCase smallCaseRefusal firstNumber
     settings-given o = rw (s, o)
 
 -- −0.0 is not below 0: as c it is admitted, and gives max_retries 0
@@ -94,20 +99,21 @@ ceil-most hi nan i = absurd i
 ceil-most hi (inf s) i = absurd i
 ceil-most hi (fin s m e) i = ceil-most-of (m * up e) (down e) hi (i .1) (eqb (m * up e % down e) 0) refl
 
--- ---- what the small case works out is in range before the ceiling and the floor, and is a probability: computed for each u from 1 to 1,024
+-- ---- what the small case works out is in range before the ceiling and the floor, and is a probability: computed for each u that is
+-- admitted
 
 abbrev passesAt : ℕ → Bool
 passesAt u =
-    not (outside (2 ^ 32 - 1) (beforeCeil u))
-    && (not (outside (2 ^ 48) (beforeFloor u (searchWidth u))) && not (outsideUnit (probability (searchWidth u))))
+    not (outside maxSearchWidth (beforeCeil u))
+    && (not (outside maxDfsBound (beforeFloor u (searchWidth u))) && not (outsideUnit (probability (searchWidth u))))
 
-computed : T (eachUpTo passesAt 1024)
+computed : T (eachUpTo passesAt maxProofSize)
 unfolding isNan lt ofInt round add mul div outside ceil asDouble L beforeCeil searchWidth probability beforeFloor eachUpTo
 computed = tt
 
 pub record InRange (u : ℕ) : Type 0 where
-  pub before-ceil : outside (2 ^ 32 - 1) (beforeCeil u) ≡ false
-  pub before-floor : outside (2 ^ 48) (beforeFloor u (searchWidth u)) ≡ false
+  pub before-ceil : outside maxSearchWidth (beforeCeil u) ≡ false
+  pub before-floor : outside maxDfsBound (beforeFloor u (searchWidth u)) ≡ false
   pub unit : outsideUnit (probability (searchWidth u)) ≡ false
 
 is-false : (b : Bool) → T (not b) → b ≡ false
@@ -117,24 +123,26 @@ is-false false t = refl
 pub in-range : (u : ℕ) → proofSizeOut u ≡ false → InRange u
 in-range u p =
     let b = one-to p in
-    let t = from-computed passesAt 1024 computed u (b .0) (b .1) in
-    let f = not (outside (2 ^ 48) (beforeFloor u (searchWidth u))) in
+    let t = from-computed passesAt maxProofSize computed u (b .0) (b .1) in
+    let f = not (outside maxDfsBound (beforeFloor u (searchWidth u))) in
     let q = not (outsideUnit (probability (searchWidth u))) in
-    let w = and-r (not (outside (2 ^ 32 - 1) (beforeCeil u))) (f && q) t in
+    let w = and-r (not (outside maxSearchWidth (beforeCeil u))) (f && q) t in
     record {
-      before-ceil = is-false _ (and-l (not (outside (2 ^ 32 - 1) (beforeCeil u))) (f && q) t);
+      before-ceil = is-false _ (and-l (not (outside maxSearchWidth (beforeCeil u))) (f && q) t);
       before-floor = is-false _ (and-l f q w);
       unit = is-false _ (and-r f q w);
     }
 
 module _ (u : ℕ) (p : proofSizeOut u ≡ false) where
-  pub width-most : searchWidth u ≤ 2 ^ 32 - 1
+  pub width-most : searchWidth u ≤ maxSearchWidth
   unfolding searchWidth
-  width-most = ceil-most (2 ^ 32 - 1) (beforeCeil u) (inside (2 ^ 32 - 1) (beforeCeil u) (in-range u p .before-ceil))
+  width-most = ceil-most maxSearchWidth (beforeCeil u) (inside maxSearchWidth (beforeCeil u) (in-range u p .before-ceil))
 
-  pub bound-most : dfsBound u (searchWidth u) ≤ 2 ^ 48
+  pub bound-most : dfsBound u (searchWidth u) ≤ maxDfsBound
   unfolding dfsBound
-  bound-most = floor-most (2 ^ 48) (beforeFloor u (searchWidth u)) (inside (2 ^ 48) (beforeFloor u (searchWidth u)) (in-range u p .before-floor))
+  bound-most =
+      floor-most maxDfsBound (beforeFloor u (searchWidth u))
+      (inside maxDfsBound (beforeFloor u (searchWidth u)) (in-range u p .before-floor))
 
 -- ---- the settings of the small case are lawful, with any set_size in its range
 
@@ -153,7 +161,7 @@ module _ (n u : ℕ) (c : Float) (p : proofSizeOut u ≡ false) (o : completenes
   unfolding smallSettings
   keeps-limits = record {
     proof-size = one-to p .1;
-    max-retries = ceil-most 65535 c (inside 65535 c o);
+    max-retries = ceil-most maxCompleteness c (inside maxCompleteness c o);
     search-width = width-most u p;
     dfs-bound = bound-most u p;
   }

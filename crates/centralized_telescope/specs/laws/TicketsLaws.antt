@@ -1,4 +1,4 @@
--- Laws of the layout of a ticket's bodies: what the reader looks at (specs/inner/TicketReading) is what is found there (specs/Tickets).
+-- Laws of the layout of a ticket's bodies: what the reader looks at (specs/inner/TicketReading) is what is found there (Tickets).
 use mathlib.Core.Path.{_≡_, refl, sym, ap, _∙_}
 use mathlib.Core.Bool.{true}
 use mathlib.Core.List.{List, [], _∷_, _++_, append-assoc}
@@ -9,41 +9,18 @@ use borrow.Author.Tests.{leb-true, le-leb}
 use lib.Dec.{leb}
 use lib.ListN.{length, take, drop, length-append, length-drop, take-append-drop}
 use lib.Seq.{take-add, take-at, drop-at, drop-drop, length-take-le}
-use Rattle.sampling.specs.BigEndian.{bigEndian, bytesOf}
+use Rattle.sampling.specs.core.BigEndian.{bigEndian, bytesOf}
 use Rattle.sampling.specs.laws.BigEndianLaws.{length-bytesOf}
 use Rattle.centralized_telescope.specs.laws.TestLaws.{both}
 use Rattle.centralized_telescope.specs.laws.BytesLaws.{Bytes, bytes-drop, bytes-again, number-found}
-use Rattle.centralized_telescope.specs.Lists.{Each}
-use Rattle.centralized_telescope.specs.Elements.{Element, markOf, numberOf, indexBytes, indexOf}
-use Rattle.centralized_telescope.specs.ProofList.{joined}
-use Rattle.centralized_telescope.specs.Tickets.{headBytes, elementBytes, elementsBytes, ElementFits, elementIn, elementsIn}
+use Rattle.centralized_telescope.specs.core.Lists.{Each}
+use Rattle.centralized_telescope.specs.core.Elements.{Element, indexBytes, indexOf, maxDataBytes}
+use Rattle.centralized_telescope.specs.later.Words.{markOf, numberOf}
+use Rattle.centralized_telescope.specs.later.ProofList.{joinedData}
+use Rattle.centralized_telescope.specs.later.ElementBytes.{headBytes, elementBytes, elementsBytes}
+use Rattle.centralized_telescope.specs.laws.ElementBytesLaws.{index-length, head-length, marked-one}
+use Rattle.centralized_telescope.specs.later.Tickets.{ElementFits, elementIn, elementsIn}
 use Rattle.centralized_telescope.specs.inner.TicketReading.{markIn, headSize, sizeIn, laidOut, allLaidOut, layoutSize, dataSize}
-
--- ---- the bytes before an element's data
-
-index-length : (o : Option ℕ) → length (indexBytes o) ≡ 8 * markOf o
-index-length none = refl
-index-length (some v) = length-bytesOf 8 v
-
-pub head-length : (o : Option ℕ) (n : ℕ) → length (headBytes o n) ≡ 5 + 8 * markOf o
-head-length o n = omega (arith, length-append (indexBytes o) (bytesOf 4 n), index-length o, length-bytesOf 4 n)
-
-pub length-element : (e : Element) → length (elementBytes e) ≡ 5 + 8 * markOf (e .index) + length (e .bytes)
-unfolding elementBytes
-length-element e =
-    omega (arith, length-append (headBytes (e .index) (length (e .bytes))) (e .bytes), head-length (e .index) (length (e .bytes)))
-
-pub marked-one : (o : Option ℕ) → markOf o ≤ 1
-marked-one none = omega arith
-marked-one (some v) = omega arith
-
--- elements with data no longer than some length
-pub elements-most : (longest : ℕ) (es : List Element) → Each (λ (e : Element). length (e .bytes) ≤ longest) es
-    → length (elementsBytes es) ≤ length es * (13 + longest)
-unfolding Each elementsBytes
-elements-most longest [] h = omega arith
-elements-most longest (e ∷ es) h =
-    omega (arith, length-append (elementBytes e) (elementsBytes es), length-element e, marked-one (e .index), h .0, elements-most longest es (h .1))
 
 -- ---- an index by a mark of 0 or 1
 
@@ -76,7 +53,7 @@ pub record ElementLaid (s : List ℕ) : Type 0 where
   pub own-size : length (elementIn s .bytes) ≡ sizeIn s
   pub mark : markOf (elementIn s .index) ≡ markIn s
   pub number : numberOf (elementIn s .index) ≡ bigEndian (8 * markIn s) (drop 1 s)
-  pub short : sizeIn s ≤ 4096
+  pub short : sizeIn s ≤ maxDataBytes
   pub within : headSize s + sizeIn s ≤ length s
   pub marked : markIn s ≤ 1
 
@@ -94,21 +71,27 @@ pub element-laid : (s : List ℕ) → laidOut s ≡ true → ElementLaid s
 unfolding laidOut elementBytes
 element-laid s e =
     let m = both (leb (markIn s) 1) (both (leb 5 (length s)) e .1) in
-    let z = both (leb (sizeIn s) 4096) (both (leb (headSize s) (length s)) (m .1) .1) in
+    let z = both (leb (sizeIn s) maxDataBytes) (both (leb (headSize s) (length s)) (m .1) .1) in
     let marked : markIn s ≤ 1 = leb-true (markIn s) 1 (m .0) in
     let within : headSize s + sizeIn s ≤ length s = leb-true (headSize s + sizeIn s) (length s) (z .1) in
     let own = own-part s marked in
-    let own-size : length (elementIn s .bytes) ≡ sizeIn s = rw own (length-take-le (sizeIn s) (drop (headSize s) s) (omega (arith, length-drop (headSize s) s))) in
+    let own-size : length (elementIn s .bytes) ≡ sizeIn s =
+    rw own (length-take-le (sizeIn s) (drop (headSize s) s) (omega (arith, length-drop (headSize s) s))) in
     let size : length (elementBytes (elementIn s)) ≡ headSize s + sizeIn s =
     length-append (headBytes (elementIn s .index) (length (elementIn s .bytes))) (elementIn s .bytes)
-    ∙ rw (head-length (elementIn s .index) (length (elementIn s .bytes)), own-size, index-part s, index-mark (markIn s) (bigEndian 8 (drop 1 s)) marked) in
+    ∙ rw (
+      head-length (elementIn s .index) (length (elementIn s .bytes)),
+      own-size,
+      index-part s,
+      index-mark (markIn s) (bigEndian 8 (drop 1 s)) marked,
+    ) in
     record {
       size = size;
       own = own;
       own-size = own-size;
       mark = rw (index-part s) (index-mark (markIn s) (bigEndian 8 (drop 1 s)) marked);
       number = rw (index-part s) (index-number (markIn s) (drop 1 s) marked);
-      short = leb-true (sizeIn s) 4096 (z .0);
+      short = leb-true (sizeIn s) maxDataBytes (z .0);
       within = within;
       marked = marked;
     }
@@ -121,17 +104,23 @@ elements-count zero s = refl
 elements-count (suc n) s = ap suc (elements-count n (drop (length (elementBytes (elementIn s))) s))
 
 -- the elements behind the first stand where the reader looks
-pub elements-more : (n : ℕ) (s : List ℕ) → laidOut s ≡ true → elementsIn (suc n) s ≡ elementIn s ∷ elementsIn n (drop (headSize s + sizeIn s) s)
+pub elements-more : (n : ℕ) (s : List ℕ) → laidOut s ≡ true
+    → elementsIn (suc n) s ≡ elementIn s ∷ elementsIn n (drop (headSize s + sizeIn s) s)
 unfolding elementsIn
 elements-more n s e = rw (element-laid s e .size)
 
-pub data-size : (n : ℕ) (s : List ℕ) → allLaidOut n s ≡ true → dataSize n s ≡ length (joined (elementsIn n s))
-unfolding allLaidOut dataSize elementsIn joined
+pub data-size : (n : ℕ) (s : List ℕ) → allLaidOut n s ≡ true → dataSize n s ≡ length (joinedData (elementsIn n s))
+unfolding allLaidOut dataSize elementsIn joinedData
 data-size zero s e = refl
 data-size (suc n) s e =
     let h = both (laidOut s) e in
     let f = element-laid s (h .0) in
-    rw (f .size, length-append (elementIn s .bytes) (joined (elementsIn n (drop (headSize s + sizeIn s) s))), f .own-size, data-size n (drop (headSize s + sizeIn s) s) (h .1))
+    rw (
+      f .size,
+      length-append (elementIn s .bytes) (joinedData (elementsIn n (drop (headSize s + sizeIn s) s))),
+      f .own-size,
+      data-size n (drop (headSize s + sizeIn s) s) (h .1),
+    )
 
 pub layout-size : (n : ℕ) (s : List ℕ) → allLaidOut n s ≡ true → layoutSize n s ≡ length (elementsBytes (elementsIn n s))
 unfolding allLaidOut layoutSize elementsIn elementsBytes
@@ -198,7 +187,8 @@ index-found : (o : Option ℕ) (r : List ℕ) → numberOf o < 2 ^ 64 → indexO
 index-found none r h = refl
 index-found (some v) r h = ap some (number-found 8 v r h)
 
-same-element : {b c : List ℕ} {o p : Option ℕ} → b ≡ c → o ≡ p → _≡_ {A = Element} (record { bytes = b; index = o }) (record { bytes = c; index = p })
+same-element : {b c : List ℕ} {o p : Option ℕ} → b ≡ c → o ≡ p
+    → _≡_ {A = Element} (record { bytes = b; index = o }) (record { bytes = c; index = p })
 same-element B I = rw (B, I)
 
 module _ (e : Element) (r : List ℕ) (fits : ElementFits e) where
@@ -211,14 +201,19 @@ module _ (e : Element) (r : List ℕ) (fits : ElementFits e) where
 
   size-found : sizeIn front ≡ length (e .bytes)
   size-found =
-      rw (drop-at (markOf (e .index) ∷ indexBytes (e .index)) (bytesOf 4 (length (e .bytes)) ++ (e .bytes ++ r)) (1 + 8 * markOf (e .index)) (omega (arith, index-length (e .index))))
+      rw
+      (drop-at (markOf (e .index) ∷ indexBytes (e .index)) (bytesOf 4 (length (e .bytes)) ++ (e .bytes ++ r)) (1 + 8 * markOf (e .index))
+      (omega (arith, index-length (e .index))))
       (number-found 4 (length (e .bytes)) (e .bytes ++ r) (omega (arith, fits .0)))
 
   own-found : take (length (e .bytes)) (drop (headSize front) front) ≡ e .bytes
   own-found =
       let head = markOf (e .index) ∷ (indexBytes (e .index) ++ bytesOf 4 (length (e .bytes))) in
       let l : length head ≡ headSize front = head-length (e .index) (length (e .bytes)) in
-      rw (← append-assoc (indexBytes (e .index)) (bytesOf 4 (length (e .bytes))) (e .bytes ++ r), drop-at head (e .bytes ++ r) (headSize front) l)
+      rw (
+        ← append-assoc (indexBytes (e .index)) (bytesOf 4 (length (e .bytes))) (e .bytes ++ r),
+        drop-at head (e .bytes ++ r) (headSize front) l,
+      )
       (take-at (e .bytes) r (length (e .bytes)) refl)
 
   front-length : length front ≡ headSize front + length (e .bytes) + length r
@@ -236,7 +231,7 @@ module _ (e : Element) (r : List ℕ) (fits : ElementFits e) where
         le-leb 5 (length front) (omega arith),
         le-leb (markOf (e .index)) 1 m,
         le-leb (headSize front) (length front) (omega arith),
-        le-leb (length (e .bytes)) 4096 (fits .0),
+        le-leb (length (e .bytes)) maxDataBytes (fits .0),
         le-leb (headSize front + length (e .bytes)) (length front) (omega arith),
       )
 

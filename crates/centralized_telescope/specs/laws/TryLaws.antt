@@ -5,14 +5,14 @@ use mathlib.Core.Option.{Option, none, some, Option·getD}
 use Prim.Native.Nat.{ℕ, _<_}
 use native.Mathlib.Omega.{arith}
 use lib.ListN.{length, getD, length-map}
-use Rattle.centralized_telescope.specs.Elements.{Element, elementAt}
-use Rattle.centralized_telescope.specs.Lists.{Ascending}
+use Rattle.centralized_telescope.specs.core.Elements.{Element, elementAt}
+use Rattle.centralized_telescope.specs.core.Lists.{Ascending}
 use Rattle.centralized_telescope.specs.laws.ListsLaws.{getD-map}
-use Rattle.centralized_telescope.specs.Rounds.{binOf}
+use Rattle.centralized_telescope.specs.core.Rounds.{binOf}
 use Rattle.centralized_telescope.specs.laws.RoundsLaws.{drawnBelow-below}
 use Rattle.centralized_telescope.specs.laws.BinsLaws.{place-in-bin, bin-has-place, places-ascend}
-use Rattle.centralized_telescope.specs.Chains.{Try}
-use Rattle.centralized_telescope.specs.Search.{binList, binsOf, placesIn, idOf}
+use Rattle.centralized_telescope.specs.core.Chains.{Try}
+use Rattle.centralized_telescope.specs.core.Search.{binList, binsOf, placesIn, idOf}
 
 -- a number below n is a bin's, and no stand-in for none
 bin-not-none : (o : Option ℕ) (n i : ℕ) → i < n → Option·getD o n ≡ i → o ≡ some i
@@ -35,7 +35,8 @@ module _ (T : Try) where
   pub id-below : (h : List ℕ) (i : ℕ) → idOf T h ≡ some i → i < N
   id-below h i e = drawnBelow-below N i h e
 
-  pub in-bin : (i e : ℕ) → i < N → List·Memᴰ e (placesIn T i) → (e < length (T .kept)) × (binOf N (T .retry) (elementAt (T .kept) e) ≡ some i)
+  pub in-bin : (i e : ℕ) → i < N → List·Memᴰ e (placesIn T i)
+      → (e < length (T .kept)) × (binOf N (T .retry) (elementAt (T .kept) e) ≡ some i)
   unfolding placesIn
   in-bin i e l m =
       let p = place-in-bin (binsOf T) i e m in

@@ -1,4 +1,4 @@
--- Laws of the verdict: it is by the existence and the passing of specs/Chains.
+-- Laws of the verdict: it is by the existence and the passing of Chains.
 use mathlib.Core.Path.{_≡_, refl, ap, sym, subst}
 use mathlib.Core.Bool.{Bool, true, false, cond}
 use mathlib.Core.List.{List, [], _∷_}
@@ -8,10 +8,10 @@ use native.Mathlib.Omega.{arith}
 use borrow.Author.Tests.{eq-eqb, eqb-true}
 use lib.Dec.{T}
 use Rattle.centralized_telescope.specs.declared.params.Params.{Params}
-use Rattle.centralized_telescope.specs.Elements.{Element}
-use Rattle.centralized_telescope.specs.Rounds.{startHash, nextHash, roundId, binOf, saysYes}
-use Rattle.centralized_telescope.specs.Chains.{Grows, ElementsExist}
-use Rattle.centralized_telescope.specs.Verifier.{ifSome, isBin, follow, lastHash, yesOn}
+use Rattle.centralized_telescope.specs.core.Elements.{Element}
+use Rattle.centralized_telescope.specs.core.Rounds.{startHash, nextHash, roundId, binOf, saysYes}
+use Rattle.centralized_telescope.specs.core.Chains.{Grows, ElementsExist}
+use Rattle.centralized_telescope.specs.core.Verifier.{ifSome, isBin, follow, lastHash, yesOn}
 
 -- the bin of an element is i, by the test and by the definition
 bin-is : (o : Option ℕ) (i : ℕ) → isBin o i ≡ true → o ≡ some i
@@ -34,7 +34,8 @@ module _ (p : Params) (R : ℕ) where
   pub follow-grows : (h : List ℕ) (i : ℕ) (es : List Element) (g : List ℕ) → follow p R h i es ≡ some g → Grows p R h i es g
   unfolding Grows follow ifSome
   follow-grows h i [] g w = cc
-  follow-grows h i (e ∷ es) g w = go (isBin (binOf N R e) i) refl (roundId N (nextHash h e)) refl (λ j v. follow-grows (nextHash h e) j es g v) w
+  follow-grows h i (e ∷ es) g w =
+      go (isBin (binOf N R e) i) refl (roundId N (nextHash h e)) refl (λ j v. follow-grows (nextHash h e) j es g v) w
     where
       go : (t : Bool) → isBin (binOf N R e) i ≡ t → (d : Option ℕ) → roundId N (nextHash h e) ≡ d
           → ((j : ℕ) → follow p R (nextHash h e) j es ≡ some g → Grows p R (nextHash h e) j es g)
@@ -53,7 +54,8 @@ module _ (p : Params) (R : ℕ) where
     unfolding lastHash ifSome
     last-exist g e = go (roundId N (startHash R S)) refl e
       where
-        go : (d : Option ℕ) → roundId N (startHash R S) ≡ d → ifSome d (λ (i : ℕ). follow p R (startHash R S) i es) ≡ some g → ElementsExist p R S es g
+        go : (d : Option ℕ) → roundId N (startHash R S) ≡ d → ifSome d (λ (i : ℕ). follow p R (startHash R S) i es) ≡ some g
+            → ElementsExist p R S es g
         go none q v = let z : _≡_ {A = ℕ} 0 1 = cc in absurd (omega arith)
         go (some i) q v = (i, q, follow-grows (startHash R S) i es g v)
 

@@ -8,9 +8,9 @@ use native.Mathlib.Omega.{arith}
 use borrow.Author.Tests.{ltb-true, ltb-false, le-ltb, le-leb, lt-leb}
 use lib.Dec.{ltb, leb}
 use Rattle.centralized_telescope.specs.laws.TestLaws.{either-way}
-use Rattle.centralized_telescope.specs.Lists.{firstOf, upToFirst}
-use Rattle.centralized_telescope.specs.Chains.{Try, Chain}
-use Rattle.centralized_telescope.specs.Search.{existing, passing, tryCount, tryFinds}
+use Rattle.centralized_telescope.specs.core.Lists.{firstOf, upToFirst}
+use Rattle.centralized_telescope.specs.core.Chains.{Try, Chain}
+use Rattle.centralized_telescope.specs.core.Search.{existing, passing, tryCount, tryFinds}
 use Rattle.centralized_telescope.specs.inner.Walk.{Ended, found, missing, walk, counted, find}
 
 module _ {A : Type 0} (test : A → Bool) (bound : ℕ) where
@@ -43,7 +43,8 @@ module _ {A : Type 0} (test : A → Bool) (bound : ℕ) where
   walk-finds count (x ∷ xs) h = go (ltb count bound) refl (test x) (walk-finds (count + 1) xs)
     where
       go : (w : Bool) → ltb count bound ≡ w → (t : Bool)
-          → (count + 1 ≤ bound → find (walk test bound (count + 1) xs) ≡ cond (leb (count + 1 + upToFirst test xs) bound) (firstOf test xs) none)
+          → (count + 1 ≤ bound → find (walk test bound (count + 1) xs) ≡ cond (leb (count + 1 + upToFirst test xs) bound) (firstOf test xs)
+          none)
           → find (cond w (cond t (found (count + 1) x) (walk test bound (count + 1) xs)) (missing count))
           ≡ cond (leb (count + cond t 1 (1 + upToFirst test xs)) bound) (cond t (some x) (firstOf test xs)) none
       go true e true rest = rw (le-leb (count + 1) bound (omega (arith, ltb-true count bound e)))
@@ -60,7 +61,8 @@ module _ {A : Type 0} (test : A → Bool) (bound : ℕ) where
   andThen (found count x) go = found count x
   andThen (missing count) go = go count
 
-  pub walk-append : (count : ℕ) (xs ys : List A) → walk test bound count (xs ++ ys) ≡ andThen (walk test bound count xs) (λ (t : ℕ). walk test bound t ys)
+  pub walk-append : (count : ℕ) (xs ys : List A)
+      → walk test bound count (xs ++ ys) ≡ andThen (walk test bound count xs) (λ (t : ℕ). walk test bound t ys)
   unfolding walk andThen
   walk-append count [] ys = refl
   walk-append count (x ∷ xs) ys = go (ltb count bound) refl (test x) (walk-append (count + 1) xs ys)
@@ -68,7 +70,8 @@ module _ {A : Type 0} (test : A → Bool) (bound : ℕ) where
       go : (w : Bool) → ltb count bound ≡ w → (t : Bool)
           → walk test bound (count + 1) (xs ++ ys) ≡ andThen (walk test bound (count + 1) xs) (λ (t : ℕ). walk test bound t ys)
           → cond w (cond t (found (count + 1) x) (walk test bound (count + 1) (xs ++ ys))) (missing count)
-          ≡ andThen (cond w (cond t (found (count + 1) x) (walk test bound (count + 1) xs)) (missing count)) (λ (t : ℕ). walk test bound t ys)
+          ≡ andThen (cond w (cond t (found (count + 1) x) (walk test bound (count + 1) xs)) (missing count))
+          (λ (t : ℕ). walk test bound t ys)
       go true e true rest = refl
       go true e false rest = rest
       go false e t rest = sym (walk-full count ys (ltb-false count bound e))
@@ -107,7 +110,9 @@ module _ (T : Try) where
 
   pub try-counts : counted tryWalk ≡ tryCount T
   unfolding tryCount
-  try-counts = walk-counts (passing T) (T .settings .«dfs_bound») 0 (existing T) (omega arith) ∙ ap (λ (k : ℕ). min k (T .settings .«dfs_bound»)) (omega arith)
+  try-counts =
+      walk-counts (passing T) (T .settings .«dfs_bound») 0 (existing T) (omega arith)
+      ∙ ap (λ (k : ℕ). min k (T .settings .«dfs_bound»)) (omega arith)
 
   pub try-finds : find tryWalk ≡ tryFinds T
   unfolding tryFinds

@@ -1,6 +1,6 @@
 -- `alba_proof_size`: the answer of `proof_size` in numbers.
 use mathlib.Core.Path.{sym, subst}
-use Rattle.centralized_telescope.specs.ProofSize.{SizeIs}
+use Rattle.centralized_telescope.specs.later.ProofSize.{SizeIs}
 use Rattle.harness_exports.specs.declared.SizeNumbers.{SizeNumbers}
 use borrow.Author.Needs.{needs}
 use Rattle.harness_exports.proofs.alba_proof_size.Statement.{statement}
@@ -25,7 +25,8 @@ returns c =
     let sized = numbers .before in
     let z = sized .before .before .args in (
       numbers .size-numbers .result .size,
-      subst (λ (m : SizeNumbers). SizeIs (z .s) (z .c) (z .n) (z .f) (m .number) (m .size)) (sym (numbers .size-numbers .ensures)) (sized .proof-size .ensures),
+      subst (λ (m : SizeNumbers). SizeIs (z .s) (z .c) (z .n) (z .f) (m .number) (m .size)) (sym (numbers .size-numbers .ensures))
+          (sized .proof-size .ensures),
       put .put-first .ensures,
     )
 

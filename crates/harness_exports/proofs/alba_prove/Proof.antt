@@ -1,8 +1,35 @@
 -- `alba_prove`: the answer of `prove` in numbers.
+use mathlib.Core.Path.{ap, _∙_}
+use Rattle.centralized_telescope.specs.core.Elements.{Lent, lentOf}
+use Rattle.centralized_telescope.specs.declared.params.Params.{Params}
+use Rattle.harness_exports.specs.Exported.{exportedProve}
 use Rattle.harness_exports.proofs.ProverNumbers.{exported-so}
 use borrow.Author.Needs.{needs}
 use Rattle.harness_exports.proofs.alba_prove.Statement.{statement}
 use Rattle.harness_exports.proofs.alba_prove.Tie as tie
+
+-- the calls, from the end
+abbrev counters-put : tie.After-slice-known6 → tie.After-put-counters
+counters-put s = s .before .before
+
+abbrev numbers-made : tie.After-slice-known6 → tie.After-numbers-of
+numbers-made s = counters-put s .before .before
+
+abbrev proved : tie.After-slice-known6 → tie.After-prove
+proved s = numbers-made s .before .before .before .before .before
+
+abbrev settings-made : tie.After-slice-known6 → tie.After-settings-of
+settings-made s = proved s .before .before .before
+
+-- and the function's entry
+abbrev entry : tie.After-slice-known6 → tie.Start
+entry s = settings-made s .before .before .before .before .before .before .before .before
+
+abbrev lent : tie.After-slice-known6 → Lent
+lent s = let z = entry s .args in lentOf (z .«data» .now) (z .ends .now) (z .marks .now) (z .indexes .now)
+
+settings-of-requires : tie.Need-settings-of-requires
+settings-of-requires c κs = search needs
 
 prove-requires : tie.Need-prove-requires
 prove-requires c κs = search needs
@@ -24,15 +51,17 @@ same-length-3 c = search needs
 
 returns : tie.Need-returns
 returns c =
-    let at-prove = c .before .before .before .before .before .before .before .before .before in
-    let a = at-prove .before .before .before .before .before .before .before .before .before .before .args in
-    exported-so _ (a .«data» .now) (a .ends .now) (a .marks .now) (a .indexes .now) (a .places .now) (a .table .now) (a .out .now) (at-prove .prove .result) _ _ _ _
-    (at-prove .prove .ensures) (c .before .before .before .before .numbers-of .ensures) (c .before .before .put-counters .ensures)
+    let a = entry c .args in
+    exported-so (settings-made c .settings-of .result) (lent c) (a .places .now) (a .table .now) (a .out .now) (proved c .prove .result)
+    _ _ _ _
+    (proved c .prove .ensures) (numbers-made c .numbers-of .ensures) (counters-put c .put-counters .ensures)
+    ∙ ap (λ (p : Params). exportedProve p (lent c) (a .places .now) (a .table .now) (a .out .now)) (settings-made c .settings-of .ensures)
 
 pub alba-prove-spec : {M : Type 1} → statement M
 alba-prove-spec =
     tie.close
     (tie.spec
+    settings-of-requires
     prove-requires
     numbers-of-requires
     put-counters-requires

@@ -31,7 +31,8 @@ returns-2 : tie.Need-returns-2
 returns-2 c =
     let h = c .before .before .before .before .before .before .sha256 in
     let z = c .before .before .before .before .before .before .before .before .before .before .before .before .before .args in
-    served (z .a .now ++ (z .b .now ++ (z .c .now ++ z .d .now))) (z .out .now) _ (h .result .digest) (h .result .number) (search needs) (omega arith) (h .ensures) (c .before .before .copy .ensures .1)
+    served (z .a .now ++ (z .b .now ++ (z .c .now ++ z .d .now))) (z .out .now) _ (h .result .digest) (h .result .number) (search needs)
+    (omega arith) (h .ensures) (c .before .before .copy .ensures .1)
 
 pub alba-sha256-spec : {M : Type 1} → statement M
 alba-sha256-spec =

@@ -2,9 +2,9 @@
 use mathlib.Core.Path.{sym, ap, _∙_}
 use mathlib.Core.List.{List}
 use Prim.Native.Nat.{ℕ}
-use Rattle.centralized_telescope.specs.Refusals.{refusalNumber}
+use Rattle.centralized_telescope.specs.core.Refusals.{refusalNumber}
 use Rattle.centralized_telescope.specs.laws.RefusalsLaws.{refusal-number}
-use Rattle.centralized_telescope.specs.Params.{smallCaseNumber, zeros}
+use Rattle.centralized_telescope.specs.later.SmallCase.{smallCaseBy, noSettings}
 use Rattle.harness_exports.proofs.Answer.{not-six, answered, not-settled}
 use borrow.Author.Needs.{needs}
 use Rattle.harness_exports.proofs.alba_small_case.Statement.{statement}
@@ -38,7 +38,8 @@ returns-2 c =
     let a = c .before .before .before .before .before .answer .given in
     let at-param-small-case = c .before .before .before .before .before .before .before in
     let z = at-param-small-case .before .before .before .args in
-    answered (z .u) (z .c) (z .out .now) 0 (a .0 .0) _ (search needs) (sym (ap smallCaseNumber (a .1)) ∙ at-param-small-case .param-small-case .ensures)
+    answered (z .u) (z .c) (z .out .now) 0 (a .0 .0) _ (search needs)
+    (sym (ap smallCaseBy (a .1)) ∙ at-param-small-case .param-small-case .ensures)
     (ap (λ (l : List ℕ). (0, l)) (c .before .before .put-settings .ensures))
 
 returns-3 : tie.Need-returns-3
@@ -46,8 +47,10 @@ returns-3 c =
     let a = c .before .before .answer2 .given in
     let z = c .before .before .before .before .before .before .before .args in
     let k = a .0 .0 in
-    answered (z .u) (z .c) (z .out .now) (refusalNumber k) zeros _ (search needs) (sym (ap smallCaseNumber (a .1)) ∙ c .before .before .before .before .param-small-case .ensures)
-    (ap (λ (n : ℕ). (n, z .out .now)) (c .refusal-number .ensures) ∙ not-settled (refusalNumber k) zeros (z .out .now) (refusal-number k))
+    answered (z .u) (z .c) (z .out .now) (refusalNumber k) noSettings _ (search needs)
+    (sym (ap smallCaseBy (a .1)) ∙ c .before .before .before .before .param-small-case .ensures)
+    (ap (λ (n : ℕ). (n, z .out .now)) (c .refusal-number .ensures)
+    ∙ not-settled (refusalNumber k) noSettings (z .out .now) (refusal-number k))
 
 pub alba-small-case-spec : {M : Type 1} → statement M
 alba-small-case-spec =

@@ -37,17 +37,20 @@ returns c =
 returns-2 : tie.Need-returns-2
 returns-2 c =
     let n = c .before .before .before .before in
-    c .without-proof .ensures ∙ with-number _ _ (n .proof-search-number .result) (n .proof-search-number .ensures) (c .before .before .answer2 .given .1)
+    c .without-proof .ensures ∙ with-number _ _ (n .proof-search-number .result) (n .proof-search-number .ensures)
+    (c .before .before .answer2 .given .1)
 
 returns-3 : tie.Need-returns-3
 returns-3 c =
     let n = c .before .before .before .before in
-    c .without-proof2 .ensures ∙ with-number _ _ (n .proof-search-number .result) (n .proof-search-number .ensures) (c .before .before .answer3 .given .1)
+    c .without-proof2 .ensures ∙ with-number _ _ (n .proof-search-number .result) (n .proof-search-number .ensures)
+    (c .before .before .answer3 .given .1)
 
 returns-4 : tie.Need-returns-4
 returns-4 c =
     let n = c .before .before .before in
-    c .without-proof3 .ensures ∙ with-number _ _ (n .proof-search-number .result) (n .proof-search-number .ensures) (c .before .enum-told .given .1)
+    c .without-proof3 .ensures ∙ with-number _ _ (n .proof-search-number .result) (n .proof-search-number .ensures)
+    (c .before .enum-told .given .1)
 
 pub numbers-of-spec : {M : Type 1} → statement M
 numbers-of-spec =

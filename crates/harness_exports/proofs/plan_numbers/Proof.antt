@@ -2,7 +2,7 @@
 use mathlib.Core.Path.{ap, sym, _∙_}
 use Prim.Native.Nat.{ℕ}
 use Rattle.harness_exports.specs.declared.PlanNumbers.{PlanNumbers}
-use Rattle.centralized_telescope.specs.Plan.{noAmounts}
+use Rattle.centralized_telescope.specs.later.Plan.{noAmounts}
 use Rattle.harness_exports.specs.Exported.{planNumbers}
 use borrow.Author.Needs.{needs}
 use Rattle.harness_exports.proofs.plan_numbers.Statement.{statement}

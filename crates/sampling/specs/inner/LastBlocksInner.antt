@@ -4,11 +4,11 @@ use mathlib.Core.List.{List, _++_}
 use Prim.Native.Nat.{ℕ, zero, suc, _+_, _-_, _*_}
 use lib.Dec.{leb, ltb}
 use lib.ListN.{length, replicate}
-use Rattle.sampling.specs.Fips180.{block, compressed}
+use Rattle.sampling.specs.core.Fips180.{block, compressed}
 use Rattle.sampling.specs.declared.sha256.State.{State}
 
--- whether four strings of these lengths are joined in one piece: each is shorter than a block, so that none lies whole in one of them, and with
--- the padding they are two blocks at most
+-- whether four strings of these lengths are joined in one piece: each is shorter than a block, so that none lies whole in one of them, and
+-- with the padding they are two blocks at most
 unfoldable pub inOnePiece : ℕ → ℕ → ℕ → ℕ → Bool
 inOnePiece a b c d = ltb a 64 && ltb b 64 && ltb c 64 && ltb d 64 && leb (a + b + c + d) 119
 

@@ -7,12 +7,13 @@ use native.Mathlib.Numerals.{add-one}
 use native.Mathlib.Omega.{arith}
 use lib.ListN.{length, take, drop, getD, length-append, length-drop, take-append-drop, List·getD-append}
 use lib.Seq.{getD-at, length-take-le}
-use Rattle.sampling.specs.BigEndian.{bigEndian, bytesOf}
+use Rattle.sampling.specs.core.BigEndian.{bigEndian, bytesOf}
 
 pub length-bytesOf : (k v : ℕ) → length (bytesOf k v) ≡ k
 unfolding bytesOf
 length-bytesOf zero v = refl
-length-bytesOf (suc k) v = length-append (bytesOf k (v / 256)) (v % 256 ∷ []) ∙ ap (λ (i : ℕ). i + 1) (length-bytesOf k (v / 256)) ∙ add-one k
+length-bytesOf (suc k) v =
+    length-append (bytesOf k (v / 256)) (v % 256 ∷ []) ∙ ap (λ (i : ℕ). i + 1) (length-bytesOf k (v / 256)) ∙ add-one k
 
 -- bytes that follow are not read
 pub bigEndian-append : (k : ℕ) (l m : List ℕ) → k ≤ length l → bigEndian k (l ++ m) ≡ bigEndian k l

@@ -5,26 +5,27 @@ use Prim.Native.Nat.{ℕ, zero, suc, _+_, _*_, _/_, _%_, _^_, _≤_, _<_}
 use native.Mathlib.Omega.{arith}
 use borrow.Author.Tests.{le-leb, lt-leb}
 use lib.ListN.{length, getD, replicate, length-append, length-replicate, List·getD-append}
-use Rattle.sampling.specs.BigEndian.{bytesOf}
+use Rattle.sampling.specs.core.BigEndian.{bytesOf}
 use Rattle.sampling.specs.laws.BigEndianLaws.{length-bytesOf, All256, all256-at, all256-bytesOf, all256-append}
-use Rattle.sampling.specs.Fips180.{zeros, padding, padded, words, block, H₀, compressed, hashValue, joined, digestOf, sha256}
-use Rattle.sampling.specs.Hash.{hashed}
+use Rattle.sampling.specs.core.Fips180.{zeroBytes, padding, padded, words, block, H₀, compressed, hashValue, wordBytes, digestOf}
+use Rattle.sampling.specs.core.Fips180.{sha256}
+use Rattle.sampling.specs.core.Hash.{hashed}
 use Rattle.sampling.specs.inner.LastBlocksInner.{hashValueFrom}
 use Rattle.sampling.specs.declared.sha256.State.{State}
 
 -- ---- 5.1.1: k, the number of zero bits, solves l + 1 + k ≡ 448 modulo 512, and no smaller k does
 
-pub zeros-solve : (n : ℕ) → (8 * n + 1 + (7 + 8 * zeros n)) % 512 ≡ 448
-unfolding zeros
+pub zeros-solve : (n : ℕ) → (8 * n + 1 + (7 + 8 * zeroBytes n)) % 512 ≡ 448
+unfolding zeroBytes
 zeros-solve n = omega arith
 
-pub zeros-smallest : (n k : ℕ) → (8 * n + 1 + k) % 512 ≡ 448 → 7 + 8 * zeros n ≤ k
-unfolding zeros
+pub zeros-smallest : (n k : ℕ) → (8 * n + 1 + k) % 512 ≡ 448 → 7 + 8 * zeroBytes n ≤ k
+unfolding zeroBytes
 zeros-smallest n k e = omega arith
 
 -- with its padding a message is whole blocks of 64 bytes (512 bits), counted here behind the last block that it fills itself
 pub padding-size : (n : ℕ) → n % 64 + length (padding n) ≡ (n % 64 + 72) / 64 * 64
-unfolding padding zeros
+unfolding padding zeroBytes
 padding-size n = simp (length-append, length-replicate, length-bytesOf) (omega arith)
 
 pub length-padded : (m : List ℕ) → length (padded m) ≡ (length m + 72) / 64 * 64
@@ -70,15 +71,15 @@ blocks-append h m z (suc k) le = rw (blocks-append h m z k (omega arith), words-
 
 -- ---- 6.2: a digest is 32 bytes, each below 256
 
-length-joined : (ws : List ℕ) → length (joined ws) ≡ 4 * length ws
-unfolding joined
+length-joined : (ws : List ℕ) → length (wordBytes ws) ≡ 4 * length ws
+unfolding wordBytes
 length-joined [] = refl
-length-joined (w ∷ ws) = length-append (bytesOf 4 w) (joined ws) ∙ rw (length-bytesOf 4 w, length-joined ws) (omega arith)
+length-joined (w ∷ ws) = length-append (bytesOf 4 w) (wordBytes ws) ∙ rw (length-bytesOf 4 w, length-joined ws) (omega arith)
 
-joined-bytes : (ws : List ℕ) → All256 (joined ws)
-unfolding joined All256
+joined-bytes : (ws : List ℕ) → All256 (wordBytes ws)
+unfolding wordBytes All256
 joined-bytes [] = tt
-joined-bytes (w ∷ ws) = all256-append (bytesOf 4 w) (joined ws) (all256-bytesOf 4 w) (joined-bytes ws)
+joined-bytes (w ∷ ws) = all256-append (bytesOf 4 w) (wordBytes ws) (all256-bytesOf 4 w) (joined-bytes ws)
 
 pub length-sha256 : (m : List ℕ) → length (sha256 m) ≡ 32
 unfolding sha256 digestOf

@@ -11,11 +11,11 @@ use borrow.Author.Tests.{eq-eqb, ne-eqb, le-leb, lt-leb}
 use lib.Dec.{eqb}
 use lib.ListN.{length, take, drop, getD, set, replicate, length-append, length-drop, length-set, take-append-drop, drop-of-length-le}
 use lib.Seq.{sets, sets-eq, take-length, take-add, length-take-le, getD-take, getD-drop}
-use Rattle.sampling.specs.Fips180.{words, block, compressed, hashValue, padding, padded, digestOf, sha256}
-use Rattle.sampling.specs.Hash.{hashed}
+use Rattle.sampling.specs.core.Fips180.{words, block, compressed, hashValue, padding, padded, digestOf, sha256}
+use Rattle.sampling.specs.core.Hash.{hashed}
 use Rattle.sampling.specs.laws.HashLaws.{padding-size, padded-whole, from-first, hashed-within, hashed-over}
 use Rattle.sampling.specs.inner.LastBlocksInner.{hashValueFrom}
-use Rattle.sampling.specs.Hasher.{newHasher, absorbByte, absorbBytes, tooLong, absorbed, finished}
+use Rattle.sampling.specs.later.Hasher.{newHasher, absorbByte, absorbBytes, tooLong, absorbed, finished}
 use Rattle.sampling.specs.declared.sha256.Hasher.{Hasher}
 
 -- ---- bytes, one after the other
@@ -71,7 +71,8 @@ within-block h (b ∷ s) lt =
     ∙ rw (next-place h (omega arith), one-longer h (length s))
 
 pub fills-block : (h : Hasher) (s : List ℕ) → h .len % 64 + length s ≡ 64
-    → absorbBytes h s ≡ record { state = compressed (h .state) (block (sets (h .block) (h .len % 64) s) 0); block = replicate 64 0; len = h .len + length s }
+    → absorbBytes h s
+    ≡ record { state = compressed (h .state) (block (sets (h .block) (h .len % 64) s) 0); block = replicate 64 0; len = h .len + length s }
 unfolding absorbBytes absorbByte
 fills-block h [] e = absurd (omega arith)
 fills-block h (b ∷ []) e = rw (eq-eqb (h .len % 64) 63 (omega arith))
@@ -114,7 +115,15 @@ module _ (h : Hasher) (s : List ℕ) (l : length (h .block) ≡ 64) (z : h .len 
       let c : g .len ≡ h .len + o = absorbBytes-len h (take o s) ∙ rw (length-take-le o s (omega arith)) in
       let a : g .len % 64 ≡ 0 = omega arith in
       let e : g .len + length x ≡ h .len + (o + 64) = omega arith in
-      rw (take-add o 64 s, absorbBytes-append h (take o s) x, fills-block g x (omega arith), a, e, all-set (g .block) x (size h (take o s) l) n, own-words s o 16 (omega arith))
+      rw (
+        take-add o 64 s,
+        absorbBytes-append h (take o s) x,
+        fills-block g x (omega arith),
+        a,
+        e,
+        all-set (g .block) x (size h (take o s) l) n,
+        own-words s o 16 (omega arith),
+      )
 
   -- after one block at least, the block is zeros
   pub whole-blocks : length s % 64 ≡ 0 → 0 < length s
@@ -209,8 +218,14 @@ absorbed-twice h a b = go (decLe (h .len + length a) (2 ^ 29)) (decLe (h .len + 
 
     go : Dec (h .len + length a ≤ 2 ^ 29) → Dec (h .len + length (a ++ b) ≤ 2 ^ 29) → absorbed (absorbed h a) b ≡ absorbed h (a ++ b)
     go (yes p) (yes q) =
-        rw (absorbed-within h a p, absorbed-within (absorbBytes h a) b (omega (arith, n, c)), absorbed-within h (a ++ b) q, absorbBytes-append h a b)
-    go (yes p) (no q) = rw (absorbed-within h a p, absorbed-over (absorbBytes h a) b (omega (arith, n, c)), absorbed-over h (a ++ b) (omega arith))
+        rw (
+          absorbed-within h a p,
+          absorbed-within (absorbBytes h a) b (omega (arith, n, c)),
+          absorbed-within h (a ++ b) q,
+          absorbBytes-append h a b,
+        )
+    go (yes p) (no q) =
+        rw (absorbed-within h a p, absorbed-over (absorbBytes h a) b (omega (arith, n, c)), absorbed-over h (a ++ b) (omega arith))
     go (no p) _ = rw (absorbed-over h a (omega arith), absorbed-over h (a ++ b) (omega (arith, n)), tooLong-stays b)
 
 -- after the message with its padding
@@ -231,5 +246,10 @@ absorbed-hashes m = go (decLe (length m) (2 ^ 29))
 
     go : Dec (length m ≤ 2 ^ 29) → finished (absorbed newHasher m) ≡ hashed m
     go (yes p) =
-        rw (absorbed-within newHasher m (omega arith), finished-within (absorbBytes newHasher m) (omega (arith, c)), after-padding m (absorbBytes newHasher m .len) c, hashed-within m p)
+        rw (
+          absorbed-within newHasher m (omega arith),
+          finished-within (absorbBytes newHasher m) (omega (arith, c)),
+          after-padding m (absorbBytes newHasher m .len) c,
+          hashed-within m p,
+        )
     go (no p) = rw (absorbed-over newHasher m (omega arith), finished-over tooLong (omega arith), hashed-over m (omega arith))

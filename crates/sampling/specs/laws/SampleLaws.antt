@@ -3,7 +3,7 @@ use mathlib.Core.Path.{_≡_, refl, sym, ap, _∙_, subst}
 use mathlib.Core.Bool.{Bool, true, false, not, cond, _||_}
 use mathlib.Core.List.{List}
 use mathlib.Core.Logic.{_⊎_, inl, inr}
-use Prim.Native.Nat.{ℕ, zero, suc, _-_, _*_, _%_, _^_, _≤_, _<_, _+_, _/_}
+use Prim.Native.Nat.{ℕ, zero, suc, _-_, _*_, _%_, _^_, _<_, _+_, _/_}
 use native.Mathlib.Nat.{eq-or-lt-of-le, eq-zero-or-pos, mod-lt, mod-one, min-le-right, lt-of-le-of-lt}
 use native.Mathlib.Omega.{arith}
 use borrow.Author.Tests.{eq-eqb, ne-eqb, eqb-true, le-ltb}
@@ -11,8 +11,9 @@ use lib.Dec.{T, leb, ltb, eqb, lit<}
 use lib.IntN.{pos}
 use lib.Ieee.{Float, nan, inf, fin, binary64, ofBits, isNan, lt, ne}
 use lib.Ieee.Compare.{differs-from-itself, nan-differs}
-use Rattle.sampling.specs.BigEndian.{bigEndian}
-use Rattle.sampling.specs.Sample.{isPower, D, modNotPower, uniform, outside, outsideUnit, floorOf, threshold, thresholdOrRefusal, valueOf, halvesOf, bernoulli}
+use Rattle.sampling.specs.core.BigEndian.{bigEndian}
+use Rattle.sampling.specs.core.Sample.{isPower, D, modNotPower, uniform, valueOf, bernoulli}
+use Rattle.sampling.specs.later.Threshold.{outside, outsideUnit, floorOf, threshold, converted, halvesOf}
 use Rattle.sampling.specs.declared.sample.U128.{U128}
 
 -- ---- powers of two: the test says yes exactly at 2 ^ 0, .. 2 ^ (k - 1)
@@ -127,8 +128,8 @@ threshold-below (inf s) = lit< tt
 threshold-below (fin s m e) = lt-of-le-of-lt (min-le-right (floorOf m e) (2 ^ 128 - 1)) (lit< tt)
 
 -- 01, Sampler: X of −0.0
-pub negative-zero : thresholdOrRefusal (ofBits binary64 (2 ^ 63)) ≡ (0, 0)
-unfolding ofBits isNan lt outside threshold thresholdOrRefusal
+pub negative-zero : converted (ofBits binary64 (2 ^ 63)) ≡ (0, 0)
+unfolding ofBits isNan lt outside threshold converted
 negative-zero = refl
 
 -- a q that is not refused is a number
@@ -139,12 +140,12 @@ inside-no-nan (inf s) o = tt
 inside-no-nan (fin s m e) o = tt
 
 -- the threshold and its refusal, by the test on q
-pub threshold-refused : (q : Float) → outsideUnit q ≡ true → thresholdOrRefusal q ≡ (3, 0)
-unfolding thresholdOrRefusal
+pub threshold-refused : (q : Float) → outsideUnit q ≡ true → converted q ≡ (3, 0)
+unfolding converted
 threshold-refused q o = rw o
 
-pub threshold-at : (q : Float) → outsideUnit q ≡ false → thresholdOrRefusal q ≡ (0, threshold q)
-unfolding thresholdOrRefusal
+pub threshold-at : (q : Float) → outsideUnit q ≡ false → converted q ≡ (0, threshold q)
+unfolding converted
 threshold-at q o = rw o
 
 -- no i is below 0

@@ -9,7 +9,7 @@ use lib.Bits.{bitAnd, bitOr, bitXor, differ, xor-comm, shifted-half, shifted-eve
 use lib.Bits.{and-step, or-step, xor-step, and-shr, or-shr, xor-shr, and-lt, or-lt, xor-lt}
 use lib.ListN.{getD}
 use lib.Pow.{ones-sub-lt, pow-mono, shr-le, shr-shr, shl-shr, field, mod-mod-pow}
-use Rattle.sampling.specs.Fips180.{_⊞_, ¬w, ROTR, Ch, Maj}
+use Rattle.sampling.specs.core.Fips180.{_⊞_, ROTR, Ch, Maj}
 
 -- the binary digit i of x
 digit : ℕ → ℕ → ℕ
@@ -29,7 +29,8 @@ same-digits : (k : ℕ) {a b : ℕ} → a < 2 ^ k → b < 2 ^ k → ((i : ℕ) �
 unfolding digit
 same-digits zero p q e = omega arith
 same-digits (suc k) {a} {b} p q e =
-    let above : (i : ℕ) → i < k → digit (a / 2) i ≡ digit (b / 2) i = λ i l. sym (digit-suc a i) ∙ e (suc i) (omega arith) ∙ digit-suc b i in
+    let above : (i : ℕ) → i < k → digit (a / 2) i ≡ digit (b / 2) i = λ i l. sym (digit-suc a i) ∙ e (suc i) (omega arith)
+    ∙ digit-suc b i in
     omega (arith, same-digits k {a = a / 2} {b = b / 2} (omega (arith, pow-suc 2 k)) (omega (arith, pow-suc 2 k)) above, e 0 (omega arith))
 
 -- ---- the digits of what an operation makes
@@ -154,7 +155,8 @@ by-table f g e x y z p q r =
     last a b h k = either (λ (c : ℕ). f a b c ≡ g a b c) h k z r
 
 module _ (x y z : ℕ) (p : x < 2 ^ 32) (q : y < 2 ^ 32) (r : z < 2 ^ 32) where
-  by-digits : (i : ℕ) (f g : ℕ → ℕ → ℕ → ℕ) → table f ≡ table g → f (digit x i) (digit y i) (digit z i) ≡ g (digit x i) (digit y i) (digit z i)
+  by-digits : (i : ℕ) (f g : ℕ → ℕ → ℕ → ℕ) → table f ≡ table g
+      → f (digit x i) (digit y i) (digit z i) ≡ g (digit x i) (digit y i) (digit z i)
   by-digits i f g e = by-table f g e (digit x i) (digit y i) (digit z i) (digit-lt x i) (digit-lt y i) (digit-lt z i)
 
   -- x says of each digit whether it is y's or z's

@@ -12,12 +12,12 @@ use lib.Dec.{ltb, eqb, leb}
 use lib.Pow.{pow-add, pow-pos}
 use lib.ListN.{take}
 use lib.Seq.{take-all, take-append-le}
-use Rattle.sampling.specs.BigEndian.{bigEndian, bytesOf}
+use Rattle.sampling.specs.core.BigEndian.{bigEndian, bytesOf}
 use Rattle.sampling.specs.laws.BigEndianLaws.{length-bytesOf, bigEndian-append, read-back}
-use Rattle.sampling.specs.Sample.{isPower, D, modNotPower, bernoulli}
+use Rattle.sampling.specs.core.Sample.{isPower, D, modNotPower, bernoulli}
 use Rattle.sampling.specs.laws.SampleLaws.{power-of, at-a-power, not-at-a-power}
-use Rattle.centralized_telescope.specs.Rounds.{drawnBelow, roundId}
-use Rattle.centralized_telescope.specs.Verifier.{isBin}
+use Rattle.centralized_telescope.specs.core.Rounds.{drawnBelow, roundId}
+use Rattle.centralized_telescope.specs.core.Verifier.{isBin}
 use Rattle.soundness.specs.Functions.{oneIf, howManyDigests}
 use Rattle.soundness.specs.laws.SumLaws.{sum-same, sum-zero, sum-split}
 use Rattle.soundness.specs.laws.CountLaws.{howMany, count-below, count-mod, count-div}

@@ -1,6 +1,6 @@
 -- From the share to security figures: what settings made from them are, and the arithmetic.
 use mathlib.Core.Path.{_≡_, refl, sym, _∙_, ap, subst}
-use mathlib.Core.Bool.{Bool, true, false, cond, _&&_}
+use mathlib.Core.Bool.{Bool, true, false, _&&_}
 use mathlib.Core.Logic.{inl, inr}
 use Prim.Native.Nat.{ℕ, _+_, _*_, _^_, _≤_, _<_, min}
 use native.Mathlib.Nat.{mul-le-mul-right, mul-le-mul, le-trans, le-of-eq, mul-pos, one-le-pow, pow-le-pow-left, le-of-mul-le-mul-right}
@@ -10,16 +10,18 @@ use lib.Pow.{pow-add, pow-pos, pow-mono}
 use lib.ListN.{length}
 use lib.Ieee.{Float, isNan, lt, ofInt, round, add, mul, div}
 use lib.Ieee.Fits.{and-l, and-r}
-use Rattle.sampling.specs.Sample.{outside, threshold, thresholdOrRefusal, xOf, valueOf}
+use Rattle.sampling.specs.later.Threshold.{outside, threshold, converted, xOf}
+use Rattle.sampling.specs.core.Sample.{valueOf}
 use Rattle.centralized_telescope.specs.declared.params.Params.{Params}
 use Rattle.centralized_telescope.specs.declared.params.SmallSettings.{SmallSettings}
-use Rattle.centralized_telescope.specs.Params.{notOneTo, ceil, asDouble, L, beforeCeil, searchWidth, probability}
-use Rattle.centralized_telescope.specs.Params.{smallSettings, zeros, proofSizeOut, completenessOut, smallCase}
-use Rattle.centralized_telescope.specs.ProofSize.{figuresOut, InRange, Smallest, SizeIs}
+use Rattle.centralized_telescope.specs.core.Params.{notOneTo}
+use Rattle.centralized_telescope.specs.later.SmallCase.{ceil, asDouble, L, beforeCeil, searchWidth, probability, smallSettings, noSettings}
+use Rattle.centralized_telescope.specs.later.SmallCase.{proofSizeOut, completenessOut, smallCase}
+use Rattle.centralized_telescope.specs.later.ProofSize.{figuresOut, InRange, Smallest, SizeIs}
 use Rattle.centralized_telescope.specs.laws.TestLaws.{eachUpTo, from-computed}
 use Rattle.centralized_telescope.specs.laws.ParamsLaws.{one-to}
 use Rattle.centralized_telescope.specs.laws.ProofSizeLaws.{Ranges, ranges}
-use Rattle.centralized_telescope.specs.laws.SmallCaseLaws.{settings-given}
+use Rattle.centralized_telescope.specs.laws.SmallCaseLaws.{proof-size-refused, completeness-refused, settings-given}
 use Rattle.soundness.specs.Green.{howManyFunctions, Made, seldomBy, madeByCalls}
 use Rattle.soundness.specs.Green.{exampleSettings, greenExample}
 use Rattle.soundness.specs.laws.GreenLaws.{green-share}
@@ -31,7 +33,7 @@ abbrev fitsAt : ℕ → Bool
 fitsAt u = leb (searchWidth u) 81920 && leb (searchWidth u * valueOf (xOf (probability (searchWidth u)))) (5 * 2 ^ 128)
 
 computed : T (eachUpTo fitsAt 1024)
-unfolding isNan lt ofInt round add mul div outside ceil asDouble L beforeCeil searchWidth probability threshold thresholdOrRefusal eachUpTo
+unfolding isNan lt ofInt round add mul div outside ceil asDouble L beforeCeil searchWidth probability threshold converted eachUpTo
 computed = tt
 
 width-most : (u : ℕ) → 1 ≤ u → u ≤ 1024
@@ -47,14 +49,17 @@ record Answered (u : ℕ) (c : Float) (small : SmallSettings) : Type 0 where
   settings : small ≡ smallSettings u c
 
 answered : (u : ℕ) (c : Float) (small : SmallSettings) → smallCase u c ≡ (0, small) → Answered u c small
-unfolding smallCase
-answered u c small e = go (proofSizeOut u) refl (completenessOut c) e
+answered u c small e = go (proofSizeOut u) refl (completenessOut c) refl
   where
-    go : (a : Bool) → proofSizeOut u ≡ a → (b : Bool)
-        → _≡_ {A = ℕ × SmallSettings} (cond a (30, zeros) (cond b (31, zeros) (0, smallSettings u c))) (0, small) → Answered u c small
-    go true x b e = let z : _≡_ {A = ℕ} 30 0 = ap (λ (w : ℕ × SmallSettings). w .0) e in absurd (omega arith)
-    go false x true e = let z : _≡_ {A = ℕ} 31 0 = ap (λ (w : ℕ × SmallSettings). w .0) e in absurd (omega arith)
-    go false x false e = record { size = one-to x; settings = sym (ap (λ (w : ℕ × SmallSettings). w .1) e) }
+    -- a refusal's number isn't 0
+    never : (k : ℕ) → 0 < k → smallCase u c ≡ (k, noSettings) → Answered u c small
+    never k l r = let z : k ≡ 0 = ap (λ (w : ℕ × SmallSettings). w .0) (sym r ∙ e) in absurd (omega arith)
+
+    go : (a : Bool) → proofSizeOut u ≡ a → (b : Bool) → completenessOut c ≡ b → Answered u c small
+    go true x b y = never 30 (omega arith) (proof-size-refused u c x)
+    go false x true y = never 31 (omega arith) (completeness-refused u c x y)
+    go false x false y =
+        record { size = one-to x; settings = ap (λ (w : ℕ × SmallSettings). w .1) (sym e ∙ settings-given u c x y) }
 
 module _ (s c n f : ℕ) (p : Params) (M : Made s c n f p) where
   abbrev u : ℕ

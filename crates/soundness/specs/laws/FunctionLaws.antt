@@ -9,9 +9,10 @@ use borrow.Author.Tests.{eq-eqb}
 use lib.Dec.{eqb}
 use lib.ListN.{length, getD}
 use lib.Seq.{take-all, ext-getD}
-use Rattle.sampling.specs.BigEndian.{bigEndian, bytesOf}
+use Rattle.sampling.specs.core.BigEndian.{bigEndian, bytesOf}
 use Rattle.sampling.specs.laws.BigEndianLaws.{read-back}
-use Rattle.centralized_telescope.specs.Lists.{Each, sameBytes}
+use Rattle.centralized_telescope.specs.core.Lists.{Each}
+use Rattle.centralized_telescope.specs.later.Words.{sameBytes}
 use Rattle.centralized_telescope.specs.laws.BytesLaws.{each-bytes, bigEndian-below, bytes-again}
 use Rattle.soundness.specs.Functions.{sumTables, oneIf, howManyTables, OfBytes, howManyStrings, placeOf, howManyDigests, hashOf}
 use Rattle.soundness.specs.Functions.{IsDigest, IsTable, Agree, TablesAreFunctions}

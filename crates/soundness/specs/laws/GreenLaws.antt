@@ -1,6 +1,6 @@
 -- What the verifier accepts, with a function in SHA-256's place, passes in the function's table: so its share is that of `ShareLaws`.
 use mathlib.Core.Path.{_≡_, refl, sym, _∙_, ap, subst}
-use mathlib.Core.Bool.{Bool, true, false, false≢true, cond}
+use mathlib.Core.Bool.{Bool, true, false, false≢true, cond, not}
 use mathlib.Core.Logic.{inl, inr}
 use mathlib.Core.List.{List, [], _∷_, _++_, map, List·Memᴰ, List·Memᴰ·not-nil, List·Memᴰ·cases-cons}
 use mathlib.Core.Option.{Option, none, some}
@@ -11,16 +11,17 @@ use borrow.Author.Tests.{lt-ltb, eqb-true, leb-false, ne-eqb, eq-eqb}
 use lib.Dec.{eqb, leb}
 use lib.Pow.{pow-pos}
 use lib.ListN.{length, take, getD}
-use Rattle.sampling.specs.BigEndian.{bytesOf}
-use Rattle.sampling.specs.Sample.{valueOf, bernoulli}
+use Rattle.sampling.specs.core.BigEndian.{bytesOf}
+use Rattle.sampling.specs.core.Sample.{valueOf, bernoulli}
 use Rattle.centralized_telescope.specs.declared.params.Params.{Params}
-use Rattle.centralized_telescope.specs.Lists.{Each}
-use Rattle.centralized_telescope.specs.Params.{notOneTo, checked}
-use Rattle.centralized_telescope.specs.Elements.{Element, tail, elements, elementAt, listCheck}
-use Rattle.centralized_telescope.specs.Rounds.{roundLabel, binLabel, proofLabel, drawnBelow, roundId}
-use Rattle.centralized_telescope.specs.Verifier.{ifSome, isBin, countersOut}
+use Rattle.centralized_telescope.specs.core.Lists.{Each}
+use Rattle.centralized_telescope.specs.core.Params.{notOneTo, checked}
+use Rattle.centralized_telescope.specs.core.Elements.{Element, tail, elements, elementAt, listCheck}
+use Rattle.centralized_telescope.specs.core.Rounds.{roundLabel, binLabel, proofLabel, drawnBelow, roundId}
+use Rattle.centralized_telescope.specs.core.Verifier.{ifSome, isBin, countersOut}
 use Rattle.centralized_telescope.specs.laws.TestLaws.{neither}
-use Rattle.centralized_telescope.specs.laws.ListsLaws.{number-met, number-none, number-last}
+use Rattle.sampling.specs.core.FirstNumber.{line, firstNumber}
+use Rattle.sampling.specs.laws.FirstNumberLaws.{number-met, number-none, number-last}
 use Rattle.centralized_telescope.specs.laws.ParamsLaws.{set-size-refused}
 use Rattle.soundness.specs.AnyHash.{startInput, nextInput, lastInput, binWith, followWith, lastWith, yesWith, judgedWith, verdictWith}
 use Rattle.soundness.specs.Functions.{howManyStrings, placeOf, howManyDigests, hashOf, oneIf, howManyTables}
@@ -209,13 +210,13 @@ module _ (p : Params) (E : List Element) (fine : Each IsElement E) (s : List ℕ
       says-yes : yesWith hash (p .x) (lastWith hash p R S es) ≡ true
 
     judged : (R S : ℕ) (es : List Element) → judgedWith hash p R S es ≡ 0 → Judged R S es
-    unfolding judgedWith
+    unfolding judgedWith firstNumber
     judged R S es e =
         go (eqb (length es) (p .«proof_size»)) refl (countersOut p R S) refl (yesWith hash (p .x) (lastWith hash p R S es)) refl e
       where
         go : (a : Bool) → eqb (length es) (p .«proof_size») ≡ a → (b : Bool) → countersOut p R S ≡ b
             → (c : Bool) → yesWith hash (p .x) (lastWith hash p R S es) ≡ c
-            → _≡_ {A = ℕ} (cond a (cond b 21 (cond c 0 22)) 20) 0 → Judged R S es
+            → firstNumber (line 20 (not a) ∷ line 21 b ∷ line 22 (not c) ∷ []) ≡ 0 → Judged R S es
         go false x b y c z v = absurd (omega arith)
         go true x true y c z v = absurd (omega arith)
         go true x false y false z v = absurd (omega arith)

@@ -11,11 +11,11 @@ use lib.Dec.{leb}
 use lib.Arith.{mod-mul}
 use lib.ListN.{length, take, drop, getD, length-append}
 use lib.Seq.{take-at, drop-at}
-use Rattle.sampling.specs.BigEndian.{bytesOf}
+use Rattle.sampling.specs.core.BigEndian.{bytesOf}
 use Rattle.sampling.specs.laws.BigEndianLaws.{length-bytesOf}
-use Rattle.centralized_telescope.specs.Lists.{Each, someOf}
-use Rattle.centralized_telescope.specs.Elements.{Element, indexBytes, tail}
-use Rattle.centralized_telescope.specs.Rounds.{roundLabel, binLabel, proofLabel}
+use Rattle.centralized_telescope.specs.core.Lists.{Each, someOf}
+use Rattle.centralized_telescope.specs.core.Elements.{Element, indexBytes, tail}
+use Rattle.centralized_telescope.specs.core.Rounds.{roundLabel, binLabel, proofLabel}
 use Rattle.centralized_telescope.specs.laws.TestLaws.{neither}
 use Rattle.centralized_telescope.specs.laws.ListsLaws.{each-nil}
 use Rattle.centralized_telescope.specs.laws.ElementsLaws.{index-short}

@@ -4,11 +4,11 @@ use mathlib.Core.Bool.{cond}
 use mathlib.Core.List.{List, [], _∷_}
 use mathlib.Core.Option.{Option, none, some}
 use Prim.Native.Nat.{ℕ}
-use Rattle.sampling.specs.Fips180.{sha256}
+use Rattle.sampling.specs.core.Fips180.{sha256}
 use Rattle.centralized_telescope.specs.declared.params.Params.{Params}
-use Rattle.centralized_telescope.specs.Elements.{Element, Lent, elements}
-use Rattle.centralized_telescope.specs.Rounds.{startHash, nextHash, roundId, binOf, saysYes}
-use Rattle.centralized_telescope.specs.Verifier.{ifSome, isBin, follow, lastHash, yesOn, judged, verdict}
+use Rattle.centralized_telescope.specs.core.Elements.{Element, Lent, elements}
+use Rattle.centralized_telescope.specs.core.Rounds.{startHash, nextHash, roundId, binOf, saysYes}
+use Rattle.centralized_telescope.specs.core.Verifier.{ifSome, isBin, follow, lastHash, yesOn, judged, verdict}
 use Rattle.soundness.specs.AnyHash.{followWith, lastWith, yesWith, judgedWith, verdictWith}
 
 if-same : {A : Type 0} (o : Option ℕ) (f g : ℕ → Option A) → ((i : ℕ) → f i ≡ g i) → ifSome o f ≡ ifSome o g

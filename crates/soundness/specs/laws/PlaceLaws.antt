@@ -6,7 +6,7 @@ use native.Mathlib.Nat.{mod-lt, div-lt-iff-lt-mul, div-add-mod', le-of-suc-le-su
 use native.Mathlib.Omega.{arith}
 use lib.Arith.{digits-div, digits-mod, digits-lt}
 use lib.ListN.{length, getD}
-use Rattle.centralized_telescope.specs.Lists.{Each}
+use Rattle.centralized_telescope.specs.core.Lists.{Each}
 use Rattle.soundness.specs.Functions.{OfBytes, howManyStrings, placeOf}
 
 -- a quotient and a remainder are told by the number

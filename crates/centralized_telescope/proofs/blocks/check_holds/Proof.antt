@@ -4,6 +4,7 @@ use borrow.Author.Needs.{needs}
 use Rattle.centralized_telescope.proofs.BlockReading.{check-read}
 use Rattle.centralized_telescope.proofs.blocks.check_holds.Statement.{statement}
 use Rattle.centralized_telescope.proofs.blocks.check_holds.Tie as tie
+use Rattle.centralized_telescope.specs.later.Blocks.{blockBytes}
 
 mul-at : tie.Need-mul-at
 mul-at c = search needs
@@ -48,7 +49,7 @@ returns : tie.Need-returns
 returns c =
     let read = c .before .before .before in
     let z = read .before .before .before .args in
-    check-read (512 * z .k) (z .ticket .now) _ _ (read .check-of .ensures) (c .same-bytes .ensures)
+    check-read (blockBytes * z .k) (z .ticket .now) _ _ (read .check-of .ensures) (c .same-bytes .ensures)
 
 pub check-holds-spec : {M : Type 1} → statement M
 check-holds-spec =

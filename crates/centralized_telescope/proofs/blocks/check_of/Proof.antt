@@ -5,7 +5,6 @@ use lib.ListN.{length-take}
 use Rattle.centralized_telescope.proofs.BlockWriting.{digest-long, check-is}
 use Rattle.centralized_telescope.proofs.blocks.check_of.Statement.{statement}
 use Rattle.centralized_telescope.proofs.blocks.check_of.Tie as tie
-use Rattle.sampling.proofs.sha256.sha256.Reads as sha256-reads
 
 slice-aggregate-sha256 : tie.Need-slice-aggregate-sha256
 slice-aggregate-sha256 c = search needs

@@ -5,9 +5,9 @@ use Prim.Native.Nat.{_+_, _-_, _%_, _≤_}
 use native.Mathlib.Omega.{arith}
 use borrow.Author.Needs.{needs}
 use lib.ListN.{length, take, drop}
-use Rattle.centralized_telescope.specs.Blocks.{bodiesOf}
-use Rattle.centralized_telescope.specs.laws.BlocksReadLaws.{blockPlace}
-use Rattle.centralized_telescope.proofs.BlockWriting.{copied-none, copied-more, lent-long}
+use Rattle.centralized_telescope.specs.later.Blocks.{bodiesOf, bodyBytes}
+use Rattle.centralized_telescope.specs.laws.BlocksReadLaws.{blockOffset}
+use Rattle.centralized_telescope.proofs.BlockWriting.{copied-none, copied-more, part-long}
 use Rattle.centralized_telescope.proofs.BlockReading.{part-is, bodies-long}
 use Rattle.centralized_telescope.proofs.blocks.copy_from_bodies.Statement.{statement}
 use Rattle.centralized_telescope.proofs.blocks.copy_from_bodies.Tie as tie
@@ -24,8 +24,8 @@ loop-holds c =
     let z = c .before .before .args in
     (search needs, refl, copied-none (z .out .now) (drop (z .at) (bodiesOf (z .ticket .now))) (z .used))
 
-add-place : tie.Need-add-place Inv-loop μ-loop
-add-place c = omega arith
+add-offset : tie.Need-add-offset Inv-loop μ-loop
+add-offset c = omega arith
 
 mul-from : tie.Need-mul-from Inv-loop μ-loop
 mul-from c = omega arith
@@ -61,7 +61,7 @@ copy-at-requires : tie.Need-copy-at-requires Inv-loop μ-loop
 copy-at-requires c κs =
     let z = c .before .before .before .before .before .before .before .args in
     let l = c .before .before .before .before .loop in
-    omega (arith, lent-long (blockPlace (z .at + l .done)) (c .before .before .least .result) (z .ticket .now) (omega arith))
+    omega (arith, part-long (blockOffset (z .at + l .done)) (c .before .before .least .result) (z .ticket .now) (omega arith))
 
 add-done : tie.Need-add-done Inv-loop μ-loop
 add-done c = omega arith
@@ -76,9 +76,9 @@ loop-again c =
     let s = a .before .before .before .before .before in
     let z = s .args in
     let n = a .least .result in
-    let f : (z .at + l .done) % 504 + n ≤ 504 = omega arith in
+    let f : (z .at + l .done) % bodyBytes + n ≤ bodyBytes = omega arith in
     let g : l .done + n ≤ z .len = omega arith in
-    let e = lent-long (blockPlace (z .at + l .done)) n (z .ticket .now) (omega arith) in (
+    let e = part-long (blockOffset (z .at + l .done)) n (z .ticket .now) (omega arith) in (
       g,
       omega (arith, l .inv .1, c .before .before .copy-at .kept .1 .1 .0),
       copied-more (z .out .now) (drop (z .at) (bodiesOf (z .ticket .now))) (z .used) (l .done) n (omega arith)
@@ -102,7 +102,7 @@ copy-from-bodies-spec =
     Inv-loop
     μ-loop
     loop-holds
-    add-place
+    add-offset
     mul-from
     add-from
     sub-least

@@ -30,8 +30,12 @@ loop-less c = simp length-set (omega arith)
 
 loop-again : tie.Need-loop-again Inv-loop μ-loop
 loop-again c =
-    let v = c .before .loop in
-    (simp length-set (omega arith), simp length-set (v .inv .1), ap (λ l. set l (v .i) 0) (v .inv .2) ∙ fill-more (v .i) 0 (c .before .before .args .out .now) (omega arith))
+    let v = c .before .loop in (
+      simp length-set (omega arith),
+      simp length-set (v .inv .1),
+      ap (λ l. set l (v .i) 0) (v .inv .2)
+          ∙ fill-more (v .i) 0 (c .before .before .args .out .now) (omega arith),
+    )
 
 same-length : tie.Need-same-length Inv-loop μ-loop
 same-length c = c .before .loop .inv .1

@@ -33,7 +33,8 @@ loop-again c =
     let e : l .k ≡ l .k - 1 + 1 = omega arith in (
       search needs,
       omega (arith, l .inv .1, c .before .before .seal-one .kept .0),
-      one-sealed (l .k - 1) (z .n) (z .out .now) _ _ (omega arith) (omega arith) (rw e at (l .inv .2)) (c .before .before .seal-one .ensures),
+      one-sealed (l .k - 1) (z .n) (z .out .now) _ _ (omega arith) (omega arith) (rw e at (l .inv .2))
+          (c .before .before .seal-one .ensures),
     )
 
 same-length : tie.Need-same-length Inv-loop μ-loop

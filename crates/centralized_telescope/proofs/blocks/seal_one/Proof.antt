@@ -2,9 +2,10 @@
 use Prim.Native.Nat.{_*_}
 use native.Mathlib.Omega.{arith}
 use borrow.Author.Needs.{needs}
-use Rattle.centralized_telescope.proofs.BlockWriting.{lent-copied, block-made}
+use Rattle.centralized_telescope.proofs.BlockWriting.{part-copied, block-made}
 use Rattle.centralized_telescope.proofs.blocks.seal_one.Statement.{statement}
 use Rattle.centralized_telescope.proofs.blocks.seal_one.Tie as tie
+use Rattle.centralized_telescope.specs.later.Blocks.{bodyBytes, blockBytes}
 
 mul-copy : tie.Need-mul-copy
 mul-copy c = search needs
@@ -69,8 +70,10 @@ returns c =
     let s = read .before .before .before .before .before in
     let z = s .args in
     let o = z .out .now in
-    let body = lent-copied (504 * z .k) 504 o _ _ (omega arith) (search needs) (read .copy .ensures .1) in
-    rw body at (block-made (512 * z .k) o _ _ _ _ (s .pre) (search needs) (made .check-of .ensures) (first .copy-at .ensures) (second .copy-at2 .ensures))
+    let body = part-copied (bodyBytes * z .k) bodyBytes o _ _ (omega arith) (search needs) (read .copy .ensures .1) in
+    rw body at
+    (block-made (blockBytes * z .k) o _ _ _ _ (s .pre) (search needs) (made .check-of .ensures) (first .copy-at .ensures)
+    (second .copy-at2 .ensures))
 
 pub seal-one-spec : {M : Type 1} → statement M
 seal-one-spec =

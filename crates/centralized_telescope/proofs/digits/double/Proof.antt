@@ -25,7 +25,8 @@ times-requires c κs =
     let o = c .before .before .before .before in
     let d = o .args .digits .now in
     subst (λ (n : ℕ). n * 2 < base ^ length (l .digits)) (sym (l .inv .2))
-    (subst (λ (n : ℕ). numberIn d * 2 ^ l .i * 2 < base ^ n) (sym (l .inv .1)) (room-for-more (numberIn d) 2 (o .args .times-doubled) (l .i) (base ^ length d) (omega arith) (c .before .loop-test .taken) (o .pre)))
+    (subst (λ (n : ℕ). numberIn d * 2 ^ l .i * 2 < base ^ n) (sym (l .inv .1))
+    (room-for-more (numberIn d) 2 (o .args .times-doubled) (l .i) (base ^ length d) (omega arith) (c .before .loop-test .taken) (o .pre)))
 
 add-i : tie.Need-add-i Inv-loop μ-loop
 add-i c = search needs

@@ -55,7 +55,8 @@ loop-again c =
       search needs,
       fits-more (l .i) a (l .inv .1) (omega (arith, c .before .before .shared-slice-known3 .given (l .i))),
       fits-more (l .i) b (l .inv .2) (omega (arith, c .before .shared-slice-known4 .given (l .i))),
-      c .below-by-digit .ensures ∙ ap (λ (t : Bool). cond (eqb x y) t (ltb x y)) (l .inv .3) ∙ below-more (l .i) a b (l .inv .1) (l .inv .2),
+      c .below-by-digit .ensures ∙ ap (λ (t : Bool). cond (eqb x y) t (ltb x y)) (l .inv .3)
+          ∙ below-more (l .i) a b (l .inv .1) (l .inv .2),
     )
 
 returns : tie.Need-returns Inv-loop μ-loop
@@ -65,7 +66,8 @@ returns c =
     let a = o .args .a .now in
     let b = o .args .b .now in
     let e : l .i ≡ length a = omega (arith, c .loop-test .left) in
-    l .inv .3 ∙ ap (λ (k : ℕ). ltb (standsFor k a) (standsFor k b)) e ∙ ap (λ (k : ℕ). ltb (standsFor (length a) a) (standsFor k b)) (o .pre)
+    l .inv .3 ∙ ap (λ (k : ℕ). ltb (standsFor k a) (standsFor k b)) e
+    ∙ ap (λ (k : ℕ). ltb (standsFor (length a) a) (standsFor k b)) (o .pre)
 
 pub is-below-spec : {M : Type 1} → statement M
 is-below-spec =

@@ -22,7 +22,8 @@ abbrev μ-loop : tie.MeasureT-loop
 μ-loop digits₀ k carry₀ i₀ digits carry i = length digits₀ - i
 
 -- the digit read, and its product with what is carried
-digit-most : (c : tie.After-slice-known Inv-loop μ-loop) → (let l = c .before .before .loop in getD (l .digits) (l .i) 0 * c .before .before .before .args .k + l .carry < 2 ^ 64)
+digit-most : (c : tie.After-slice-known Inv-loop μ-loop)
+    → (let l = c .before .before .loop in getD (l .digits) (l .i) 0 * c .before .before .before .args .k + l .carry < 2 ^ 64)
 digit-most c =
     let o = c .before .before .before in
     let l = c .before .before .loop in
@@ -80,8 +81,11 @@ same-length c = c .before .loop .inv .1
 returns : tie.Need-returns Inv-loop μ-loop
 returns c =
     let l = c .before .loop in
-    let z = c .before .before .args in
-    (l .inv .1, product-whole (z .k) (z .digits .now) (l .digits) (l .i) (l .carry) (l .inv .1) (omega arith) (c .before .before .pre) (l .inv .3))
+    let z = c .before .before .args in (
+      l .inv .1,
+      product-whole (z .k) (z .digits .now) (l .digits) (l .i) (l .carry) (l .inv .1) (omega arith) (c .before .before .pre)
+          (l .inv .3),
+    )
 
 pub times-spec : {M : Type 1} → statement M
 times-spec =

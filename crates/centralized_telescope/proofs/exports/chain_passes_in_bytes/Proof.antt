@@ -4,10 +4,10 @@ use mathlib.Core.List.{List}
 use Prim.Native.Nat.{_-_, _≤_}
 use native.Mathlib.Omega.{arith}
 use lib.ListN.{length, drop, getD}
-use Rattle.centralized_telescope.specs.Elements.{Element, elements, lentOf}
-use Rattle.centralized_telescope.specs.Exports.{numbersOf, numbered}
+use Rattle.centralized_telescope.specs.core.Elements.{Element, elements, lentOf}
+use Rattle.centralized_telescope.specs.core.Exports.{numbersOf, numbered}
 use Rattle.centralized_telescope.specs.inner.ListReading.{startAt, lentNow}
-use Rattle.centralized_telescope.specs.Verifier.{lastHash, yesOn}
+use Rattle.centralized_telescope.specs.core.Verifier.{lastHash, yesOn}
 use Rattle.centralized_telescope.specs.inner.Following.{followed}
 use Rattle.centralized_telescope.proofs.ExportAnswers.{elements-many, end-within-bytes, index-within-bytes, own-fits, own-few}
 use Rattle.centralized_telescope.proofs.ExportAnswers.{element-read, next-start}

@@ -2,8 +2,8 @@
 use mathlib.Core.Path.{sym, _∙_}
 use Prim.Native.Nat.{_/_}
 use lib.ListN.{length}
-use Rattle.centralized_telescope.specs.Elements.{lentOf}
-use Rattle.centralized_telescope.specs.Exports.{numbersOf}
+use Rattle.centralized_telescope.specs.core.Elements.{lentOf}
+use Rattle.centralized_telescope.specs.core.Exports.{numbersOf}
 use Rattle.centralized_telescope.proofs.ListAnswers.{found}
 use Rattle.centralized_telescope.proofs.NumbersRead.{length-numbersIn}
 use borrow.Author.Needs.{needs}

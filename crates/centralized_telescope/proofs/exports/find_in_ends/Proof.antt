@@ -5,8 +5,8 @@ use Prim.Native.Nat.{_-_, _/_, _≤_, _<_}
 use native.Mathlib.Omega.{arith}
 use borrow.Author.Needs.{needs}
 use lib.ListN.{length, drop}
-use Rattle.centralized_telescope.specs.Elements.{endWrong, dataLong}
-use Rattle.centralized_telescope.specs.Exports.{numbersOf}
+use Rattle.centralized_telescope.specs.core.Elements.{endWrong, dataLong}
+use Rattle.centralized_telescope.specs.core.Exports.{numbersOf}
 use Rattle.centralized_telescope.proofs.ListFaults.{end-next, data-next, ends-done, data-done, one-more, none-left}
 use Rattle.centralized_telescope.proofs.NumbersRead.{length-numbersIn}
 use Rattle.centralized_telescope.proofs.exports.find_in_ends.Statement.{statement}
@@ -64,8 +64,10 @@ loop-again c =
     let d = c .before .before .before .is-end-wrong in
     let f = c .before .is-data-long in (
       omega (arith, t .loop-test .taken),
-      one-more (l .wrong) (d .result) _ _ _ (c .before .before .either .ensures) (end-next ns (l .i) (l .from) (w .wide .result) h e (d .result) (d .result) (a .limit) (d .ensures) refl) ∙ l .inv .1,
-      one-more (l .long) (f .result) _ _ _ (c .either2 .ensures) (data-next ns (l .i) (l .from) (w .wide .result) h e (f .result) (f .result) (f .ensures) refl) ∙ l .inv .2,
+      one-more (l .wrong) (d .result) _ _ _ (c .before .before .either .ensures)
+          (end-next ns (l .i) (l .from) (w .wide .result) h e (d .result) (d .result) (a .limit) (d .ensures) refl) ∙ l .inv .1,
+      one-more (l .long) (f .result) _ _ _ (c .either2 .ensures)
+          (data-next ns (l .i) (l .from) (w .wide .result) h e (f .result) (f .result) (f .ensures) refl) ∙ l .inv .2,
     )
 
 returns : tie.Need-returns Inv-loop μ-loop
@@ -73,8 +75,10 @@ returns c =
     let l = c .before .loop in
     let a = c .before .before .before .args in
     let ns = numbersOf 4 (a .ends .now) in
-    let h : length ns ≤ l .i = omega (arith, length-numbersIn (length (a .ends .now) / 4) 4 (a .ends .now), c .loop-test .left) in
-    (none-left (l .wrong) _ _ (ends-done ns (l .i) (l .from) h (a .limit)) (l .inv .1), none-left (l .long) _ _ (data-done ns (l .i) (l .from) h) (l .inv .2))
+    let h : length ns ≤ l .i = omega (arith, length-numbersIn (length (a .ends .now) / 4) 4 (a .ends .now), c .loop-test .left) in (
+      none-left (l .wrong) _ _ (ends-done ns (l .i) (l .from) h (a .limit)) (l .inv .1),
+      none-left (l .long) _ _ (data-done ns (l .i) (l .from) h) (l .inv .2),
+    )
 
 pub find-in-ends-spec : {M : Type 1} → statement M
 find-in-ends-spec =

@@ -2,9 +2,9 @@
 use mathlib.Core.Path.{_≡_, sym, _∙_}
 use mathlib.Core.List.{List}
 use lib.ListN.{length}
-use Rattle.centralized_telescope.specs.Elements.{Element, elements}
+use Rattle.centralized_telescope.specs.core.Elements.{Element, elements}
 use Rattle.centralized_telescope.specs.inner.ListReading.{lentNow}
-use Rattle.centralized_telescope.specs.Exports.{numbered}
+use Rattle.centralized_telescope.specs.core.Exports.{numbered}
 use Rattle.centralized_telescope.proofs.ExportAnswers.{elements-many}
 use Rattle.centralized_telescope.proofs.VerdictAnswers.{counts-told, chain-told}
 use borrow.Author.Needs.{needs}

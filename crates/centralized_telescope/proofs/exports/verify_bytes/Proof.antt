@@ -1,10 +1,10 @@
 -- `verify_bytes`: the settings, the counts of bytes, the list, then the judgement.
 use mathlib.Core.Path.{_≡_, sym, ap, _∙_}
-use Rattle.centralized_telescope.specs.Elements.{elements, listCheck, listNumber}
-use Rattle.centralized_telescope.specs.Params.{checked, checkedNumber}
-use Rattle.centralized_telescope.specs.Verifier.{judged, verdict}
+use Rattle.centralized_telescope.specs.core.Elements.{elements, listCheck, listCheckBy}
+use Rattle.centralized_telescope.specs.core.Params.{checked, checkedBy}
+use Rattle.centralized_telescope.specs.core.Verifier.{judged, verdict}
 use Rattle.centralized_telescope.specs.inner.ListReading.{lentNow}
-use Rattle.centralized_telescope.specs.Exports.{numbered, exportedVerdict}
+use Rattle.centralized_telescope.specs.core.Exports.{numbered, exportedVerdict}
 use Rattle.centralized_telescope.proofs.VerdictAnswers.{list-refused, left-to-judge}
 use Rattle.centralized_telescope.proofs.ExportAnswers.{bytes-settings-refused, ends-not-whole, indexes-not-whole, whole-counts}
 use borrow.Author.Needs.{needs}
@@ -13,7 +13,7 @@ use Rattle.centralized_telescope.proofs.exports.verify_bytes.Tie as tie
 
 -- the settings pass
 lawful-settings : (s : tie.After-enum-told) → checked (s .before .before .before .before .before .before .before .args .p) ≡ 0
-lawful-settings s = sym (s .before .before .check-params .ensures) ∙ ap checkedNumber (s .enum-told .given .1)
+lawful-settings s = sym (s .before .before .check-params .ensures) ∙ ap checkedBy (s .enum-told .given .1)
 
 -- both counts are whole: the exported verdict is the verdict on the numbers
 as-exported : (s : tie.Else2)
@@ -24,13 +24,13 @@ as-exported : (s : tie.Else2)
 as-exported s =
     let a = s .before .before .before .before .before .before .before .before .before .args in
     whole-counts (a .p) (a .retry .0) (a .search .0) (a .«data» .now) (a .ends .now) (a .marks .now) (a .indexes .now)
-    (s .before .if1 .left) (s .if2 .left)
+    (lawful-settings (s .before .before)) (s .before .if1 .left) (s .if2 .left)
 
 -- the list is accepted
 accepted : (s : tie.After-enum-told2)
     → (let a = s .before .before .before .before .before .before .before .before .before .before .before .before .args in
     listCheck (numbered (lentNow a.«data» a.ends a.marks a.indexes)) ≡ 0)
-accepted s = sym (s .before .before .check-bytes .ensures) ∙ ap listNumber (s .enum-told2 .given .1)
+accepted s = sym (s .before .before .check-bytes .ensures) ∙ ap listCheckBy (s .enum-told2 .given .1)
 
 -- and its elements are judged
 judged-so : (s : tie.After-enum-told2)
@@ -60,7 +60,7 @@ returns c =
     let s = c .before in
     let a = s .before .before .before .before .before .before .before .args in
     bytes-settings-refused (a .p) (a .retry .0) (a .search .0) (a .«data» .now) (a .ends .now) (a .marks .now) (a .indexes .now)
-    (s .k .given .0 .0) (sym (s .before .before .check-params .ensures) ∙ ap checkedNumber (s .k .given .1))
+    (s .k .given .0 .0) (sym (s .before .before .check-params .ensures) ∙ ap checkedBy (s .k .given .1))
 
 returns-2 : tie.Need-returns-2
 returns-2 c =
@@ -92,7 +92,7 @@ returns-4 c =
     let a = there .before .before .before .before .before .before .before .args in
     list-refused (a .p) (a .retry .0) (a .search .0)
     (numbered (lentNow a.«data» a.ends a.marks a.indexes)) (lawful-settings there)
-    (s .k2 .given .0 .0) (sym (s .before .before .check-bytes .ensures) ∙ ap listNumber (s .k2 .given .1))
+    (s .k2 .given .0 .0) (sym (s .before .before .check-bytes .ensures) ∙ ap listCheckBy (s .k2 .given .1))
     ∙ as-exported (s .before .before .before)
 
 judge-bytes-requires : tie.Need-judge-bytes-requires

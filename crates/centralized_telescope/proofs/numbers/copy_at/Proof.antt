@@ -20,7 +20,9 @@ same-length : tie.Need-same-length
 same-length c = search needs
 
 returns : tie.Need-returns
-returns c = let z = c .before .before .before .before .before .before .args in copied (z .at) (z .part .now) (z .out .now) _ (c .before .before .copy .ensures .1)
+returns c =
+    let z = c .before .before .before .before .before .before .args in
+    copied (z .at) (z .part .now) (z .out .now) _ (c .before .before .copy .ensures .1)
 
 pub copy-at-spec : {M : Type 1} → statement M
 copy-at-spec =

@@ -25,7 +25,8 @@ returns : tie.Need-returns
 returns c =
     let o = c .before .before .before in
     let a = o .args in
-    part-number (a .bytes .now) (a .at) (a .k) (a .at + a .k - a .at) (c .number-of .result) (o .pre .0) (o .pre .1) (omega arith) (c .number-of .ensures)
+    part-number (a .bytes .now) (a .at) (a .k) (a .at + a .k - a .at) (c .number-of .result) (o .pre .0) (o .pre .1) (omega arith)
+    (c .number-of .ensures)
 
 pub number-spec : {M : Type 1} → statement M
 number-spec =

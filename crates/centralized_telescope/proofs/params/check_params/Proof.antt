@@ -17,12 +17,14 @@ is-limit-broken-requires c κs = search needs
 returns-2 : tie.Need-returns-2
 returns-2 c =
     let t = c .before .before in
-    sym (limit-refused (t .before .before .args .p) (sym (t .before .is-not-one-to .ensures) ∙ t .if1 .left) (sym (c .before .is-limit-broken .ensures) ∙ c .if2 .taken))
+    sym (limit-refused (t .before .before .args .p) (sym (t .before .is-not-one-to .ensures) ∙ t .if1 .left)
+    (sym (c .before .is-limit-broken .ensures) ∙ c .if2 .taken))
 
 returns-3 : tie.Need-returns-3
 returns-3 c =
     let s = c .before .before in
-    sym (none-refused (s .before .before .args .p) (sym (s .before .is-not-one-to .ensures) ∙ s .if1 .left) (sym (c .before .is-limit-broken .ensures) ∙ c .if2 .left))
+    sym (none-refused (s .before .before .args .p) (sym (s .before .is-not-one-to .ensures) ∙ s .if1 .left)
+    (sym (c .before .is-limit-broken .ensures) ∙ c .if2 .left))
 
 pub check-params-spec : {M : Type 1} → statement M
 check-params-spec =

@@ -1,6 +1,6 @@
 -- `is_not_one_to`: by its two bounds.
 use borrow.Author.Tests.{lt-ltb, le-ltb}
-use Rattle.centralized_telescope.specs.Params.{notOneTo}
+use Rattle.centralized_telescope.specs.core.Params.{notOneTo}
 use Rattle.centralized_telescope.proofs.params.is_not_one_to.Statement.{statement}
 use Rattle.centralized_telescope.proofs.params.is_not_one_to.Tie as tie
 

@@ -10,7 +10,9 @@ is-not-one-to-requires : tie.Need-is-not-one-to-requires
 is-not-one-to-requires c κs = search needs
 
 returns : tie.Need-returns
-returns c = sym (proof-size-refused (c .before .before .args .u) (c .before .before .args .c) (sym (c .before .is-not-one-to .ensures) ∙ c .if1 .taken))
+returns c =
+    sym (proof-size-refused (c .before .before .args .u) (c .before .before .args .c)
+    (sym (c .before .is-not-one-to .ensures) ∙ c .if1 .taken))
 
 is-completeness-out-requires : tie.Need-is-completeness-out-requires
 is-completeness-out-requires c κs = search needs
@@ -19,10 +21,16 @@ returns-2 : tie.Need-returns-2
 returns-2 c =
     let t = c .before .before in
     let a = t .before .before .args in
-    sym (completeness-refused (a .u) (a .c) (sym (t .before .is-not-one-to .ensures) ∙ t .if1 .left) (sym (c .before .is-completeness-out .ensures) ∙ c .if2 .taken))
+    sym (completeness-refused (a .u) (a .c) (sym (t .before .is-not-one-to .ensures) ∙ t .if1 .left)
+    (sym (c .before .is-completeness-out .ensures) ∙ c .if2 .taken))
 
 small-settings-requires : tie.Need-small-settings-requires
-small-settings-requires c κs = let t = c .before .before in (sym (t .before .is-not-one-to .ensures) ∙ t .if1 .left, sym (c .before .is-completeness-out .ensures) ∙ c .if2 .left)
+small-settings-requires c κs =
+    let t = c .before .before in (
+      sym (t .before .is-not-one-to .ensures) ∙ t .if1 .left,
+      sym (c .before .is-completeness-out .ensures)
+          ∙ c .if2 .left,
+    )
 
 returns-3 : tie.Need-returns-3
 returns-3 c =
@@ -30,7 +38,8 @@ returns-3 c =
     let t = o .before .before in
     let a = t .before .before .args in
     ap (λ (s : SmallSettings). (0, s)) (c .small-settings .ensures)
-    ∙ sym (settings-given (a .u) (a .c) (sym (t .before .is-not-one-to .ensures) ∙ t .if1 .left) (sym (o .before .is-completeness-out .ensures) ∙ o .if2 .left))
+    ∙ sym (settings-given (a .u) (a .c) (sym (t .before .is-not-one-to .ensures) ∙ t .if1 .left)
+    (sym (o .before .is-completeness-out .ensures) ∙ o .if2 .left))
 
 pub param-small-case-spec : {M : Type 1} → statement M
 param-small-case-spec =

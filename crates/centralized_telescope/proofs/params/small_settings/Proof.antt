@@ -3,7 +3,7 @@ use mathlib.Core.Path.{_≡_}
 use Prim.Native.Nat.{_-_, _^_}
 use native.Mathlib.Omega.{arith}
 use lib.Dec.{lit≤}
-use Rattle.centralized_telescope.specs.Params.{beforeCeil, beforeFloor, searchWidth}
+use Rattle.centralized_telescope.specs.later.SmallCase.{beforeCeil, beforeFloor, searchWidth}
 use Rattle.centralized_telescope.specs.laws.ParamsLaws.{one-to}
 use Rattle.centralized_telescope.specs.laws.SmallCaseLaws.{wider, in-range, width-most}
 use Rattle.centralized_telescope.proofs.Whole.{counted}
@@ -36,7 +36,8 @@ floor-of-requires : tie.Need-floor-of-requires
 floor-of-requires c κs =
     let s = c .before .before .before .before in
     let u = s .args .u in
-    rw (before-floor-is u (c .before .ceil-of2 .result), width (c .before)) (wider (2 ^ 48) (2 ^ 52) (beforeFloor u (searchWidth u)) (lit≤ tt) (in-range u (s .pre .0) .before-floor))
+    rw (before-floor-is u (c .before .ceil-of2 .result), width (c .before))
+    (wider (2 ^ 48) (2 ^ 52) (beforeFloor u (searchWidth u)) (lit≤ tt) (in-range u (s .pre .0) .before-floor))
 
 x-of-requires : tie.Need-x-of-requires
 x-of-requires c κs = search needs
@@ -45,7 +46,8 @@ returns : tie.Need-returns
 returns c =
     let d = c .before .before .before in
     let s = d .before .before .before in
-    settings-are (s .args .u) (d .ceil-of2 .result) (s .args .c) (d .before .ceil-of .result) (c .before .floor-of .result) (c .x-of .result) (d .before .ceil-of .ensures) (width d) (c .before .floor-of .ensures) (c .x-of .ensures)
+    settings-are (s .args .u) (d .ceil-of2 .result) (s .args .c) (d .before .ceil-of .result) (c .before .floor-of .result)
+    (c .x-of .result) (d .before .ceil-of .ensures) (width d) (c .before .floor-of .ensures) (c .x-of .ensures)
 
 pub small-settings-spec : {M : Type 1} → statement M
 small-settings-spec =

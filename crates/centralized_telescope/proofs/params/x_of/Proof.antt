@@ -3,7 +3,7 @@ use mathlib.Core.Path.{sym, ap, _∙_, subst}
 use Prim.Native.Nat.{ℕ, _^_, _<_}
 use native.Mathlib.Omega.{arith}
 use borrow.Author.Needs.{needs}
-use Rattle.sampling.specs.Sample.{thresholdNumber, halvesOf}
+use Rattle.sampling.specs.later.Threshold.{convertedBy, halvesOf}
 use Rattle.sampling.specs.laws.SampleLaws.{halves-of}
 use Rattle.sampling.specs.declared.sample.Threshold.{Threshold}
 use Rattle.centralized_telescope.proofs.params.x_of.Statement.{statement}
@@ -29,10 +29,11 @@ low-half-fits c =
 returns : tie.Need-returns
 returns c =
     let x = c .before .x .given in
-    sym (halves-of (x .0 .0) (low-half-fits (c .before))) ∙ ap (λ (a : ℕ × ℕ). halvesOf (a .1)) (sym (ap thresholdNumber (x .1)) ∙ c .before .before .before .threshold-of .ensures)
+    sym (halves-of (x .0 .0) (low-half-fits (c .before)))
+    ∙ ap (λ (a : ℕ × ℕ). halvesOf (a .1)) (sym (ap convertedBy (x .1)) ∙ c .before .before .before .threshold-of .ensures)
 
 returns-2 : tie.Need-returns-2
-returns-2 c = ap (λ (a : ℕ × ℕ). halvesOf (a .1)) (sym (ap thresholdNumber (c .enum-told .given .1)) ∙ c .before .before .threshold-of .ensures)
+returns-2 c = ap (λ (a : ℕ × ℕ). halvesOf (a .1)) (sym (ap convertedBy (c .enum-told .given .1)) ∙ c .before .before .threshold-of .ensures)
 
 pub x-of-spec : {M : Type 1} → statement M
 x-of-spec = tie.close (tie.spec threshold-of-requires enum-known-x enum-told returns returns-2)

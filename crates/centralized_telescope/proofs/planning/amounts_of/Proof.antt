@@ -3,7 +3,7 @@ use mathlib.Core.Path.{refl}
 use Prim.Native.Nat.{_+_, _*_, _^_, _≤_}
 use native.Mathlib.Nat.{mul-le-mul}
 use native.Mathlib.Omega.{arith}
-use Rattle.centralized_telescope.specs.Plan.{amounts}
+use Rattle.centralized_telescope.specs.later.Plan.{amounts}
 use Rattle.centralized_telescope.specs.laws.ParamsLaws.{Lawful, lawful}
 use borrow.Author.Needs.{needs}
 use Rattle.centralized_telescope.proofs.planning.amounts_of.Statement.{statement}

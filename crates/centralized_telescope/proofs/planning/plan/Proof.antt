@@ -2,7 +2,7 @@
 use mathlib.Core.Path.{_≡_, sym, ap, _∙_}
 use Prim.Native.Nat.{ℕ}
 use Rattle.centralized_telescope.specs.declared.planning.Amounts.{Amounts}
-use Rattle.centralized_telescope.specs.Params.{checked, checkedNumber}
+use Rattle.centralized_telescope.specs.core.Params.{checked, checkedBy}
 use Rattle.centralized_telescope.specs.laws.PlanLaws.{settings-refused, length-refused, amounts-given}
 use borrow.Author.Needs.{needs}
 use Rattle.centralized_telescope.proofs.planning.plan.Statement.{statement}
@@ -10,7 +10,7 @@ use Rattle.centralized_telescope.proofs.planning.plan.Tie as tie
 
 -- the settings pass
 lawful-settings : (s : tie.After-enum-told) → checked (s .before .before .before .args .p) ≡ 0
-lawful-settings s = sym (s .before .before .check-params .ensures) ∙ ap checkedNumber (s .enum-told .given .1)
+lawful-settings s = sym (s .before .before .check-params .ensures) ∙ ap checkedBy (s .enum-told .given .1)
 
 check-params-requires : tie.Need-check-params-requires
 check-params-requires c κs = search needs
@@ -25,7 +25,8 @@ returns : tie.Need-returns
 returns c =
     let s = c .before in
     let a = s .before .before .before .args in
-    sym (settings-refused (a .p) (a .longest) (s .k .given .0 .0) (sym (s .before .before .check-params .ensures) ∙ ap checkedNumber (s .k .given .1)))
+    sym (settings-refused (a .p) (a .longest) (s .k .given .0 .0)
+    (sym (s .before .before .check-params .ensures) ∙ ap checkedBy (s .k .given .1)))
 
 returns-2 : tie.Need-returns-2
 returns-2 c =
@@ -40,7 +41,8 @@ returns-3 : tie.Need-returns-3
 returns-3 c =
     let s = c .before .before in
     let a = s .before .before .before .args in
-    ap {B = ℕ × Amounts} (λ (m : Amounts). (0, m)) (c .amounts-of .ensures) ∙ sym (amounts-given (a .p) (a .longest) (lawful-settings s) (c .before .if1 .left))
+    ap {B = ℕ × Amounts} (λ (m : Amounts). (0, m)) (c .amounts-of .ensures)
+    ∙ sym (amounts-given (a .p) (a .longest) (lawful-settings s) (c .before .if1 .left))
 
 pub plan-spec : {M : Type 1} → statement M
 plan-spec =

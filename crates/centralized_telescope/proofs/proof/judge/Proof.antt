@@ -2,7 +2,7 @@
 use mathlib.Core.Path.{_≡_, sym, _∙_}
 use mathlib.Core.List.{List}
 use lib.ListN.{length}
-use Rattle.centralized_telescope.specs.Elements.{Element, elements, Lent}
+use Rattle.centralized_telescope.specs.core.Elements.{Element, elements, Lent}
 use Rattle.centralized_telescope.specs.inner.ListReading.{lentNow}
 use Rattle.centralized_telescope.specs.laws.ElementsLaws.{length-elements}
 use Rattle.centralized_telescope.proofs.VerdictAnswers.{counts-told, chain-told}
@@ -26,12 +26,18 @@ judge-counts-requires c κs = search needs
 verdict-number-requires : tie.Need-verdict-number-requires
 verdict-number-requires c κs = search needs
 
+-- where the call began, from where the counts are judged
+abbrev entry : tie.After-judge-counts → tie.Start
+entry s = s .before .before .before .before .before
+
 returns : tie.Need-returns
 returns c =
-    let s = c .before .before .before .before .before .before .before in
+    let numbered = c .before in
+    let counts = numbered .before in
+    let s = entry counts in
     let a = s .args in
-    counts-told (a .p) (a .retry .0) (a .search .0) (list s) _ _ (many s) (c .before .before .judge-counts .ensures)
-    (λ z. c .if1 .taken (c .before .verdict-number .ensures ∙ z))
+    counts-told (a .p) (a .retry .0) (a .search .0) (list s) _ _ (many s) (counts .judge-counts .ensures)
+    (λ z. c .if1 .taken (numbered .verdict-number .ensures ∙ z))
 
 chain-passes-requires : tie.Need-chain-passes-requires
 chain-passes-requires c κs = search needs
@@ -41,12 +47,16 @@ judge-chain-requires c κs = search needs
 
 returns-2 : tie.Need-returns-2
 returns-2 c =
-    let s = c .before .before .before .before .before .before .before .before .before in
+    let chain = c .before in
+    let passed = chain .before in
+    let numbered = passed .before in
+    let counts = numbered .before in
+    let s = entry counts in
     let a = s .args in
     c .judge-chain .ensures
-    ∙ chain-told (a .p) (a .retry .0) (a .search .0) (list s) _ _ (many s) (c .before .before .before .before .judge-counts .ensures)
-    (sym (c .before .before .before .verdict-number .ensures) ∙ c .before .before .if1 .left)
-    _ (c .before .chain-passes .ensures)
+    ∙ chain-told (a .p) (a .retry .0) (a .search .0) (list s) _ _ (many s) (counts .judge-counts .ensures)
+    (sym (numbered .verdict-number .ensures) ∙ passed .if1 .left)
+    _ (chain .chain-passes .ensures)
 
 pub judge-spec : {M : Type 1} → statement M
 judge-spec =

@@ -19,20 +19,28 @@ hash-after-requires c κs = search needs
 round-of-requires : tie.Need-round-of-requires
 round-of-requires c κs = search needs
 
+-- where the call began, from where the bin is known
+abbrev entry : tie.After-bin-of → tie.Start
+entry s = s .before .before .before
+
 returns : tie.Need-returns
 returns c =
-    let a = c .before .before .before .before .before .before .before .args in
+    let hashed = c .before in
+    let yes = hashed .before in
+    let asked = yes .before in
+    let binned = asked .before in
+    let a = entry binned .args in
     λ es. bin-met (a .p) (a .retry .0) (a .round .hash) _ (elementOf (a .own .now) (a .index .mark) (a .index .number))
-    (c .before .before .before .before .bin-of .ensures) es (idOption (a .round .id))
-    (sym (c .before .before .before .is-met .ensures) ∙ c .before .before .if1 .taken) _ (c .before .hash-after .ensures) _ _
-    (c .round-of .ensures)
+    (binned .bin-of .ensures) es (idOption (a .round .id)) (sym (asked .is-met .ensures) ∙ yes .if1 .taken) _
+    (hashed .hash-after .ensures) _ _ (c .round-of .ensures)
 
 returns-2 : tie.Need-returns-2
 returns-2 c =
-    let a = c .before .before .before .before .before .args in
+    let asked = c .before in
+    let binned = asked .before in
+    let a = entry binned .args in
     λ es. bin-missed (a .p) (a .retry .0) (a .round .hash) _ (elementOf (a .own .now) (a .index .mark) (a .index .number))
-    (c .before .before .bin-of .ensures) es (idOption (a .round .id))
-    (sym (c .before .is-met .ensures) ∙ c .if1 .left) (a .round .hash)
+    (binned .bin-of .ensures) es (idOption (a .round .id)) (sym (asked .is-met .ensures) ∙ c .if1 .left) (a .round .hash)
 
 pub next-round-spec : {M : Type 1} → statement M
 next-round-spec =

@@ -12,7 +12,8 @@ use Rattle.centralized_telescope.proofs.proof_list.is_data_over.Stateme
 use Rattle.centralized_telescope.proofs.proof_list.is_data_over.Tie as tie
 
 abbrev Inv-loop : tie.InvT-loop
-Inv-loop places «data» ends room used₀ i₀ used i = (i ≤ length places) × (used ≤ room) × (used + length (dataOf «data» ends (drop i places)) ≡ length (dataOf «data» ends places))
+Inv-loop places «data» ends room used₀ i₀ used i =
+    (i ≤ length places) × (used ≤ room) × (used + length (dataOf «data» ends (drop i places)) ≡ length (dataOf «data» ends places))
 
 abbrev μ-loop : tie.MeasureT-loop
 μ-loop places «data» ends room used₀ i₀ used i = length places - i
@@ -43,7 +44,13 @@ returns : tie.Need-returns Inv-loop μ-loop
 returns c =
     let l = c .before .before .before .before .loop in
     let z = c .before .before .before .before .before .before .before .before .args in
-    sym (lt-ltb (z .room) _ (omega (arith, ap length (c .before .data-of .ensures), l .inv .2, data-more (z .«data» .now) (z .ends .now) (z .places .now) (l .i) (search needs))))
+    sym (lt-ltb (z .room) _
+    (omega (
+      arith,
+      ap length (c .before .data-of .ensures),
+      l .inv .2,
+      data-more (z .«data» .now) (z .ends .now) (z .places .now) (l .i) (search needs),
+    )))
 
 add-used : tie.Need-add-used Inv-loop μ-loop
 add-used c = search needs
@@ -57,14 +64,23 @@ loop-less c = search needs
 loop-again : tie.Need-loop-again Inv-loop μ-loop
 loop-again c =
     let l = c .before .before .before .before .loop in
-    let z = c .before .before .before .before .before .before .before .before .args in
-    (search needs, search needs, omega (arith, ap length (c .before .data-of .ensures), l .inv .2, data-more (z .«data» .now) (z .ends .now) (z .places .now) (l .i) (search needs)))
+    let z = c .before .before .before .before .before .before .before .before .args in (
+      search needs,
+      search needs,
+      omega (
+        arith,
+        ap length (c .before .data-of .ensures),
+        l .inv .2,
+        data-more (z .«data» .now) (z .ends .now) (z .places .now) (l .i) (search needs),
+      ),
+    )
 
 returns-2 : tie.Need-returns-2 Inv-loop μ-loop
 returns-2 c =
     let z = c .before .before .before .before .before .args in
     let l = c .before .loop in
-    sym (le-ltb (z .room) _ (omega (arith, l .inv .1, l .inv .2, data-end (z .«data» .now) (z .ends .now) (z .places .now) (l .i) (search needs))))
+    sym (le-ltb (z .room) _
+    (omega (arith, l .inv .1, l .inv .2, data-end (z .«data» .now) (z .ends .now) (z .places .now) (l .i) (search needs))))
 
 pub is-data-over-spec : {M : Type 1} → statement M
 is-data-over-spec =

@@ -6,7 +6,7 @@ use borrow.Author.Needs.{needs}
 use borrow.Author.Tests.{le-leb, lt-leb}
 use lib.Dec.{leb}
 use lib.ListN.{length, drop}
-use Rattle.centralized_telescope.specs.ProofList.{placeOut}
+use Rattle.centralized_telescope.specs.later.ProofList.{placeOut}
 use Rattle.centralized_telescope.specs.laws.ListsLaws.{some-here, some-behind, some-done}
 use Rattle.centralized_telescope.proofs.proof_list.some_place_out.Statement.{statement}
 use Rattle.centralized_telescope.proofs.proof_list.some_place_out.Tie as tie
@@ -43,7 +43,11 @@ loop-less c = search needs
 
 loop-again : tie.Need-loop-again Inv-loop μ-loop
 loop-again c =
-    let l = c .before .before .before .loop in (search needs, sym (some-behind (leb (c .before .before .before .before .args .len)) _ (l .i) 0 (search needs) (lt-leb _ _ (c .if1 .left))) ∙ l .inv .1)
+    let l = c .before .before .before .loop in (
+      search needs,
+      sym (some-behind (leb (c .before .before .before .before .args .len)) _ (l .i) 0 (search needs) (lt-leb _ _ (c .if1 .left)))
+          ∙ l .inv .1,
+    )
 
 returns-2 : tie.Need-returns-2 Inv-loop μ-loop
 returns-2 c = let l = c .before .loop in sym (some-done (leb (c .before .before .args .len)) _ (l .i) (search needs)) ∙ l .inv .1

@@ -5,10 +5,10 @@ use native.Mathlib.Omega.{arith}
 use borrow.Author.Needs.{needs}
 use lib.ListN.{length, take, length-set}
 use lib.Seq.{take-all}
-use Rattle.centralized_telescope.specs.Elements.{lentOf}
+use Rattle.centralized_telescope.specs.core.Elements.{lentOf, maxDataBytes}
 use Rattle.centralized_telescope.specs.laws.ElementsLaws.{ends-right, same-marks, same-indexes}
 use Rattle.centralized_telescope.specs.declared.proof_list.Written.the-variants as w
-use Rattle.centralized_telescope.specs.ProofList.{chosen, listOver, proofListOf}
+use Rattle.centralized_telescope.specs.later.ProofList.{chosen, listOver, proofListBy}
 use Rattle.centralized_telescope.proofs.ProofWriting.{rooms, none-written, one-written, used-is, in-list, own-is, own-short}
 use Rattle.centralized_telescope.proofs.ProofWriting.{own-fits, mark-is, number-is}
 use Rattle.centralized_telescope.proofs.proof_list.write_elements.Statement.{statement}
@@ -18,12 +18,12 @@ abbrev Inv-loop : tie.InvT-loop
 Inv-loop places «data» ends marks indexes out-data₀ out-ends₀ out-marks₀ out-indexes₀ used₀ i₀ out-data out-ends out-marks out-indexes used
     i =
     (i ≤ length places)
-    × (used ≤ 4096 * i)
+    × (used ≤ maxDataBytes * i)
     × (length out-data ≡ length out-data₀)
     × (length out-ends ≡ length out-ends₀)
     × (length out-marks ≡ length out-marks₀)
     × (length out-indexes ≡ length out-indexes₀)
-    × (proofListOf (w.List used) (lentOf out-data out-ends out-marks out-indexes)
+    × (proofListBy (w.List used) (lentOf out-data out-ends out-marks out-indexes)
     ≡ listOver (chosen (take i places) (lentOf «data» ends marks indexes)) (lentOf out-data₀ out-ends₀ out-marks₀ out-indexes₀))
 
 abbrev μ-loop : tie.MeasureT-loop
@@ -76,7 +76,7 @@ copy-at-requires c κs =
     let o = c .before .before .before .before .before .before .before .before .before .before .before .before .before .before .before in
     let z = o .args in
     let l = c .before .before .before .before .before .loop in
-    let r = rooms _ _ _ _ _ _ (o .pre .3) in
+    let r = rooms _ _ _ (o .pre .3) in
     omega (
       arith,
       r .data-room,
@@ -123,7 +123,7 @@ slice-write-out-ends c =
     let l = c .before .before .before .before .before .before .before .before .loop in
     let o = c .before .before .before .before .before .before .before .before .before .before .before .before .before .before .before
     .before .before .before in
-    let r = rooms _ _ _ _ _ _ (o .pre .3) in
+    let r = rooms _ _ _ (o .pre .3) in
     omega (arith, r .ends-room, l .inv .3)
 
 slice-write-out-marks : tie.Need-slice-write-out-marks Inv-loop μ-loop
@@ -131,7 +131,7 @@ slice-write-out-marks c =
     let l = c .before .before .before .before .before .before .before .before .loop in
     let o = c .before .before .before .before .before .before .before .before .before .before .before .before .before .before .before
     .before .before .before in
-    let r = rooms _ _ _ _ _ _ (o .pre .3) in
+    let r = rooms _ _ _ (o .pre .3) in
     omega (arith, r .marks-room, l .inv .4)
 
 mul-out-indexes : tie.Need-mul-out-indexes Inv-loop μ-loop
@@ -142,7 +142,7 @@ slice-write-out-indexes c =
     let l = c .before .before .before .before .before .before .before .before .loop in
     let o = c .before .before .before .before .before .before .before .before .before .before .before .before .before .before .before
     .before .before .before in
-    let r = rooms _ _ _ _ _ _ (o .pre .3) in
+    let r = rooms _ _ _ (o .pre .3) in
     omega (arith, r .indexes-room, l .inv .5)
 
 add-i : tie.Need-add-i Inv-loop μ-loop
@@ -157,7 +157,7 @@ loop-again c =
     .before .before .before in
     let z = o .args in
     let l = c .before .before .before .before .before .before .before .before .loop in
-    let r = rooms _ _ _ _ _ _ (o .pre .3) in (
+    let r = rooms _ _ _ (o .pre .3) in (
       search needs,
       omega (
         arith,

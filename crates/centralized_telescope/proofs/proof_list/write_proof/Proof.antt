@@ -2,17 +2,59 @@
 use mathlib.Core.Path.{_≡_, sym, ap, _∙_}
 use mathlib.Core.Bool.{false}
 use borrow.Author.Needs.{needs}
-use Rattle.centralized_telescope.specs.Elements.{listCheck, listNumber, lentOf}
+use lib.ListN.{length}
+use Rattle.centralized_telescope.specs.core.Elements.{listCheck, listCheckBy, Lent}
 use Rattle.centralized_telescope.specs.inner.ListReading.{lentNow}
 use Rattle.centralized_telescope.specs.laws.ElementsLaws.{ends-right}
-use Rattle.centralized_telescope.specs.ProofList.{proofListOf}
+use Rattle.centralized_telescope.specs.later.ProofList.{placeOut}
 use Rattle.centralized_telescope.proofs.ProofAnswers.{list-refused, too-many, place-past, same-size, too-short, all-written}
 use Rattle.centralized_telescope.proofs.proof_list.write_proof.Statement.{statement}
 use Rattle.centralized_telescope.proofs.proof_list.write_proof.Tie as tie
 
--- the function's entry, from its first call
+-- ---- places on the way
+
+-- the function's entry, from its first call and from where the list is known accepted
 abbrev entry : tie.After-check-list → tie.Start
 entry s = s .before .before .before .before .before .before .before .before .before .before
+
+abbrev begun : tie.After-enum-told → tie.Start
+begun s = entry (s .before .before)
+
+-- the list and the buffers lent
+abbrev lent : tie.Start → Lent
+lent s = let z = s .args in lentNow z.«data» z.ends z.marks z.indexes
+
+abbrev buffers : tie.Start → Lent
+buffers s = let z = s .args in lentNow z.out-data z.out-ends z.out-marks z.out-indexes
+
+-- from the list's refusal back to its check
+abbrev refused-at : tie.After-known-told → tie.After-check-list
+refused-at s = s .before .before .before
+
+-- from the question whether a place is out back to where the list is accepted
+abbrev list-passed : tie.After-some-place-out → tie.After-enum-told
+list-passed s = s .before .before
+
+-- from the question for room back to where no place is out; and from the writing to there
+abbrev places-passed : tie.After-some-buffer-short → tie.Else2
+places-passed s = s .before .before .before .before .before
+
+abbrev room-there : tie.After-write-elements-arg4 → tie.Else3
+room-there s = s .before .before .before .before
+
+abbrev elements-written : tie.After-slice-known8 → tie.After-write-elements
+elements-written s = s .before .before .before .before .before .before .before .before
+
+-- ---- what is known there
+
+accepted : (s : tie.After-enum-told) → listCheck (lent (begun s)) ≡ 0
+accepted s = sym (s .before .before .check-list .ensures) ∙ ap listCheckBy (s .enum-told .given .1)
+
+within : (s : tie.Else2)
+    → (let z = begun (list-passed (s .before)) .args in placeOut (length (z .ends .now)) (z .places .now) ≡ false)
+within s = sym (s .before .some-place-out .ensures) ∙ s .if2 .left
+
+-- ---- the needs
 
 check-list-requires : tie.Need-check-list-requires
 check-list-requires c κs = search needs
@@ -23,69 +65,32 @@ enum-told c = search needs
 enum-known-k : tie.Need-enum-known-k
 enum-known-k c = search needs
 
--- the list is accepted
-accepted : (s : tie.After-enum-told)
-    → (let z = entry (s .before .before) .args in listCheck (lentNow z.«data» z.ends z.marks z.indexes) ≡ 0)
-accepted s = sym (s .before .before .check-list .ensures) ∙ ap listNumber (s .enum-told .given .1)
-
 returns : tie.Need-returns
 returns c =
-    let s = c .before in
-    let z = entry (s .before .before) .args in
-    list-refused (z .places .now) (lentNow z.«data» z.ends z.marks z.indexes)
-    (lentOf (z .out-data .now) (z .out-ends .now) (z .out-marks .now) (z .out-indexes .now))
-    (s .k .given .0 .0) (sym (s .before .before .check-list .ensures) ∙ ap listNumber (s .k .given .1))
+    let at = refused-at c in
+    let k = c .before .k .given in
+    let s = entry at in
+    list-refused (s .args .places .now) (lent s) (buffers s) (k .0 .0) (sym (at .check-list .ensures) ∙ ap listCheckBy (k .1))
 
 returns-2 : tie.Need-returns-2
 returns-2 c =
-    let s = c .before in
-    let z = entry (s .before .before) .args in
-    too-many (z .places .now) (lentNow z.«data» z.ends z.marks z.indexes)
-    (lentOf (z .out-data .now) (z .out-ends .now) (z .out-marks .now) (z .out-indexes .now))
-    (accepted s) (c .if1 .taken)
+    let s = begun (c .before) in
+    too-many (s .args .places .now) (lent s) (buffers s) (accepted (c .before)) (c .if1 .taken)
 
 some-place-out-requires : tie.Need-some-place-out-requires
 some-place-out-requires c κs = search needs
 
 returns-3 : tie.Need-returns-3
 returns-3 c =
-    let s = c .before .before .before in
-    let z = entry (s .before .before) .args in
-    place-past (z .places .now) (lentNow z.«data» z.ends z.marks z.indexes)
-    (lentOf (z .out-data .now) (z .out-ends .now) (z .out-marks .now) (z .out-indexes .now))
-    (accepted s) (c .before .before .if1 .left) (sym (c .before .some-place-out .ensures) ∙ c .if2 .taken)
+    let at = c .before in
+    let s = begun (list-passed at) in
+    place-past (s .args .places .now) (lent s) (buffers s) (accepted (list-passed at)) (at .before .if1 .left)
+    (sym (at .some-place-out .ensures) ∙ c .if2 .taken)
 
 some-buffer-short-requires : tie.Need-some-buffer-short-requires
 some-buffer-short-requires c κs =
-    let s = c .before .before .before in
-    let z = entry (s .before .before) .args in
-    (ends-right _ (accepted s), sym (c .before .some-place-out .ensures) ∙ c .if2 .left)
-
-returns-4 : tie.Need-returns-4
-returns-4 c =
-    let s = c .before .before .before .before .before in
-    let z = entry (s .before .before) .args in
-    too-short (z .places .now) (lentNow z.«data» z.ends z.marks z.indexes)
-    (lentOf (z .out-data .now) (z .out-ends .now) (z .out-marks .now) (z .out-indexes .now))
-    (accepted s) (c .before .before .before .before .if1 .left)
-    (sym (c .before .before .before .some-place-out .ensures) ∙ c .before .before .if2 .left) _
-    (c .before .some-buffer-short .ensures) (c .if3 .taken)
-
-write-elements-requires : tie.Need-write-elements-requires
-write-elements-requires c κs =
-    let t = c .before .before .before .before in
-    let p = t .before .before in
-    let s = p .before .before .before in
-    let z = entry (s .before .before) .args in
-    let few = p .before .before .if1 .left in
-    let within = sym (p .before .some-place-out .ensures) ∙ p .if2 .left in (
-      accepted s,
-      few,
-      within,
-      same-size (z .places .now) (lentNow z.«data» z.ends z.marks z.indexes)
-          (lentOf (z .out-data .now) (z .out-ends .now) (z .out-marks .now) (z .out-indexes .now))
-          (accepted s) few within _ false (t .before .some-buffer-short .ensures) (t .if3 .left),
-    )
+    let e = c .before .before .before .before in
+    (ends-right _ (accepted (list-passed (e .before))), within e)
 
 same-length : tie.Need-same-length
 same-length c = search needs
@@ -99,20 +104,49 @@ same-length-3 c = search needs
 same-length-4 : tie.Need-same-length-4
 same-length-4 c = search needs
 
+returns-4 : tie.Need-returns-4
+returns-4 c =
+    let e = places-passed (c .before) in
+    let at = list-passed (e .before) in
+    let s = begun at in
+    too-short (s .args .places .now) (lent s) (buffers s) (accepted at) (e .before .before .if1 .left) (within e) _
+    (c .before .some-buffer-short .ensures) (c .if3 .taken)
+
+write-elements-requires : tie.Need-write-elements-requires
+write-elements-requires c κs =
+    let t = room-there c in
+    let e = places-passed (t .before) in
+    let at = list-passed (e .before) in
+    let s = begun at in
+    let few = e .before .before .if1 .left in (
+      accepted at,
+      few,
+      within e,
+      same-size (s .args .places .now) (lent s) (buffers s) (accepted at) few (within e) _ false (t .before .some-buffer-short .ensures)
+          (t .if3 .left),
+    )
+
+same-length-5 : tie.Need-same-length-5
+same-length-5 c = search needs
+
+same-length-6 : tie.Need-same-length-6
+same-length-6 c = search needs
+
+same-length-7 : tie.Need-same-length-7
+same-length-7 c = search needs
+
+same-length-8 : tie.Need-same-length-8
+same-length-8 c = search needs
+
 returns-5 : tie.Need-returns-5
 returns-5 c =
-    let w = c .before .before .before .before .before .before .before .before in
-    let e = w .write-elements in
-    let t = w .before .before .before .before .before in
-    let p = t .before .before in
-    let s = p .before .before .before in
-    let z = entry (s .before .before) .args in
-    all-written (z .places .now) (lentNow z.«data» z.ends z.marks z.indexes)
-    (lentOf (z .out-data .now) (z .out-ends .now) (z .out-marks .now) (z .out-indexes .now))
-    (accepted s) (p .before .before .if1 .left) (sym (p .before .some-place-out .ensures) ∙ p .if2 .left) _
-    (t .before .some-buffer-short .ensures) (t .if3 .left)
-    (proofListOf (e .result) (lentOf (e .last .1 .1 .1 .1 .1 .0) (e .last .1 .1 .1 .1 .1 .1 .0) (e .last .1 .1 .1 .1 .1 .1 .1 .0)
-    (e .last .1 .1 .1 .1 .1 .1 .1 .1 .0))) (e .ensures)
+    let w = elements-written c in
+    let t = room-there (w .before) in
+    let e = places-passed (t .before) in
+    let at = list-passed (e .before) in
+    let s = begun at in
+    all-written (s .args .places .now) (lent s) (buffers s) (accepted at) (e .before .before .if1 .left) (within e) _
+    (t .before .some-buffer-short .ensures) (t .if3 .left) _ (w .write-elements .ensures)
 
 pub write-proof-spec : {M : Type 1} → statement M
 write-proof-spec =
@@ -126,10 +160,14 @@ write-proof-spec =
     some-place-out-requires
     returns-3
     some-buffer-short-requires
-    returns-4
-    write-elements-requires
     same-length
     same-length-2
     same-length-3
     same-length-4
+    returns-4
+    write-elements-requires
+    same-length-5
+    same-length-6
+    same-length-7
+    same-length-8
     returns-5)

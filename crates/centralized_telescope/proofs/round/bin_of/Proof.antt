@@ -1,5 +1,5 @@
 -- `bin_of`: the draw from the digest of the label, the retry counter and the tail.
-use Rattle.centralized_telescope.specs.Rounds.{binLabel}
+use Rattle.centralized_telescope.specs.core.Rounds.{binLabel}
 use Rattle.centralized_telescope.specs.inner.ListReading.{elementOf}
 use Rattle.centralized_telescope.proofs.RoundHashes.{bin-is}
 use borrow.Author.Needs.{needs}
@@ -21,12 +21,21 @@ tail-digest-requires c κs = search needs
 round-id-requires : tie.Need-round-id-requires
 round-id-requires c κs = search needs
 
+-- where the retry counter is in bytes, from where the digest is made; and the call
+abbrev counted : tie.After-tail-digest → tie.After-eight-bytes
+counted s = s .before .before .before
+
+abbrev entry : tie.After-eight-bytes → tie.Start
+entry s = s .before .before
+
 returns : tie.Need-returns
 unfolding binLabel
 returns c =
-    let z = c .before .before .before .before .before .before .args in
-    bin-is _ _ _ (z .n) (z .retry .0) (elementOf (z .own .now) (z .index .mark) (z .index .number)) (c .round-id .ensures)
-    (c .before .tail-digest .ensures) (c .before .before .before .before .eight-bytes .ensures)
+    let hashed = c .before in
+    let bytes = counted hashed in
+    let a = entry bytes .args in
+    bin-is _ _ _ (a .n) (a .retry .0) (elementOf (a .own .now) (a .index .mark) (a .index .number)) (c .round-id .ensures)
+    (hashed .tail-digest .ensures) (bytes .eight-bytes .ensures)
 
 pub bin-of-spec : {M : Type 1} → statement M
 bin-of-spec =

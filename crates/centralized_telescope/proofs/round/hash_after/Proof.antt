@@ -1,5 +1,5 @@
 -- `hash_after`: the label and the hash before the tail.
-use Rattle.centralized_telescope.specs.Rounds.{nextHash, roundLabel}
+use Rattle.centralized_telescope.specs.core.Rounds.{nextHash, roundLabel}
 use borrow.Author.Needs.{needs}
 use Rattle.centralized_telescope.proofs.round.hash_after.Statement.{statement}
 use Rattle.centralized_telescope.proofs.round.hash_after.Tie as tie

@@ -1,9 +1,9 @@
 -- `id_of`: by the draw.
 use mathlib.Core.Path.{sym, ap}
 use borrow.Author.Needs.{needs}
-use Rattle.sampling.specs.Sample.{drawNumber}
+use Rattle.sampling.specs.core.Sample.{uniformBy}
 use Rattle.sampling.specs.declared.sample.Draw.{Draw}
-use Rattle.centralized_telescope.specs.Rounds.{drawn}
+use Rattle.centralized_telescope.specs.core.Rounds.{drawn}
 use Rattle.centralized_telescope.proofs.round.id_of.Statement.{statement}
 use Rattle.centralized_telescope.proofs.round.id_of.Tie as tie
 
@@ -17,13 +17,13 @@ enum-told-2 : tie.Need-enum-told-2
 enum-told-2 c = search needs
 
 returns : tie.Need-returns
-returns c = ap (λ (d : Draw). drawn (drawNumber d)) (sym (c .before .d .given .1))
+returns c = ap (λ (d : Draw). drawn (uniformBy d)) (sym (c .before .d .given .1))
 
 returns-2 : tie.Need-returns-2
-returns-2 c = ap (λ (d : Draw). drawn (drawNumber d)) (sym (c .enum-told .given .1))
+returns-2 c = ap (λ (d : Draw). drawn (uniformBy d)) (sym (c .enum-told .given .1))
 
 returns-3 : tie.Need-returns-3
-returns-3 c = ap (λ (d : Draw). drawn (drawNumber d)) (sym (c .enum-told2 .given .1))
+returns-3 c = ap (λ (d : Draw). drawn (uniformBy d)) (sym (c .enum-told2 .given .1))
 
 pub id-of-spec : {M : Type 1} → statement M
 id-of-spec = tie.close (tie.spec enum-known-d enum-told enum-told-2 returns returns-2 returns-3)

@@ -1,6 +1,6 @@
 -- `proof_hash`: the first 16 bytes of the digest of the label and the hash, below X.
 use borrow.Author.Needs.{needs}
-use Rattle.centralized_telescope.specs.Rounds.{proofLabel}
+use Rattle.centralized_telescope.specs.core.Rounds.{proofLabel}
 use Rattle.centralized_telescope.proofs.RoundHashes.{yes-is}
 use Rattle.centralized_telescope.proofs.round.proof_hash.Statement.{statement}
 use Rattle.centralized_telescope.proofs.round.proof_hash.Tie as tie

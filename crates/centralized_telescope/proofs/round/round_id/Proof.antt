@@ -3,8 +3,8 @@ use mathlib.Core.Path.{ap, _∙_}
 use mathlib.Core.List.{List}
 use Prim.Native.Nat.{ℕ}
 use borrow.Author.Needs.{needs}
-use Rattle.sampling.specs.Sample.{uniform}
-use Rattle.centralized_telescope.specs.Rounds.{drawn, drawnBelow}
+use Rattle.sampling.specs.core.Sample.{uniform}
+use Rattle.centralized_telescope.specs.core.Rounds.{drawn, drawnBelow}
 use Rattle.centralized_telescope.proofs.round.round_id.Statement.{statement}
 use Rattle.centralized_telescope.proofs.round.round_id.Tie as tie
 
@@ -20,8 +20,11 @@ id-of-requires c κs = search needs
 returns : tie.Need-returns
 unfolding drawnBelow
 returns c =
-    let n = c .before .before .before .args .n in
-    c .id-of .ensures ∙ ap drawn (c .before .sample-uniform .ensures ∙ ap (λ (h : List ℕ). uniform h n) (c .before .before .first-half .ensures))
+    let sampled = c .before in
+    let halved = sampled .before in
+    let n = halved .before .args .n in
+    c .id-of .ensures
+    ∙ ap drawn (sampled .sample-uniform .ensures ∙ ap (λ (h : List ℕ). uniform h n) (halved .first-half .ensures))
 
 pub round-id-spec : {M : Type 1} → statement M
 round-id-spec =

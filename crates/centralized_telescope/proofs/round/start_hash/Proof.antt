@@ -1,6 +1,6 @@
 -- `start_hash`: the label, the counters in bytes, and nothing more.
 use borrow.Author.Needs.{needs}
-use Rattle.centralized_telescope.specs.Rounds.{roundLabel}
+use Rattle.centralized_telescope.specs.core.Rounds.{roundLabel}
 use Rattle.centralized_telescope.proofs.RoundHashes.{start-is}
 use Rattle.centralized_telescope.proofs.round.start_hash.Statement.{statement}
 use Rattle.centralized_telescope.proofs.round.start_hash.Tie as tie
@@ -26,11 +26,15 @@ slice-aggregate-digest-4 c = search needs
 digest-requires : tie.Need-digest-requires
 digest-requires c κs = search needs
 
+-- where both counters are in bytes
+abbrev counted : tie.After-digest → tie.After-eight-bytes2
+counted s = s .before .before .before .before .before
+
 returns : tie.Need-returns
 unfolding roundLabel
 returns c =
-    let at-eight-bytes = c .before .before .before .before .before .before in
-    start-is _ _ _ _ _ (at-eight-bytes .eight-bytes .ensures) (c .before .before .before .before .before .eight-bytes2 .ensures) (c .digest .ensures)
+    let s = counted c in
+    start-is _ _ _ _ _ (s .before .eight-bytes .ensures) (s .eight-bytes2 .ensures) (c .digest .ensures)
 
 pub start-hash-spec : {M : Type 1} → statement M
 start-hash-spec =

@@ -41,7 +41,9 @@ times-requires c κs =
     let A = numberIn (o .args .left .now) in
     let k = o .args .n in
     subst (λ (m : ℕ). m * k < base ^ length (l .left)) (sym (l .inv .3))
-    (subst (λ (m : ℕ). A * k ^ l .u * k < base ^ m) (sym (l .inv .1)) (room-for-more A k 1024 (l .u) (base ^ length (o .args .left .now)) (o .pre .0) (omega (arith, c .before .loop-test .taken)) (o .pre .3)))
+    (subst (λ (m : ℕ). A * k ^ l .u * k < base ^ m) (sym (l .inv .1))
+    (room-for-more A k 1024 (l .u) (base ^ length (o .args .left .now)) (o .pre .0) (omega (arith, c .before .loop-test .taken))
+    (o .pre .3)))
 
 times-requires-2 : tie.Need-times-requires-2 Inv-loop μ-loop
 times-requires-2 c κs =
@@ -50,7 +52,9 @@ times-requires-2 c κs =
     let B = numberIn (o .args .right .now) in
     let k = o .args .f in
     subst (λ (m : ℕ). m * k < base ^ length (l .right)) (sym (l .inv .4))
-    (subst (λ (m : ℕ). B * k ^ l .u * k < base ^ m) (sym (l .inv .2)) (room-for-more B k 1024 (l .u) (base ^ length (o .args .right .now)) (o .pre .1) (omega (arith, c .before .before .before .before .before .loop-test .taken)) (o .pre .4)))
+    (subst (λ (m : ℕ). B * k ^ l .u * k < base ^ m) (sym (l .inv .2))
+    (room-for-more B k 1024 (l .u) (base ^ length (o .args .right .now)) (o .pre .1)
+    (omega (arith, c .before .before .before .before .before .loop-test .taken)) (o .pre .4)))
 
 add-u : tie.Need-add-u Inv-loop μ-loop
 add-u c = search needs
@@ -58,20 +62,28 @@ add-u c = search needs
 is-below-requires : tie.Need-is-below-requires Inv-loop μ-loop
 is-below-requires c κs =
     let l = c .before .before .before .before .before .before .before .before .before .before .before .loop in
-    c .before .before .before .before .before .before .before .before .times .ensures .0 ∙ l .inv .1 ∙ c .before .before .before .before .before .before .before .before .before .before .before .before .before .before .pre .2 ∙ sym (l .inv .2) ∙ sym (c .before .before .before .before .times2 .ensures .0)
+    c .before .before .before .before .before .before .before .before .times .ensures .0 ∙ l .inv .1
+    ∙ c .before .before .before .before .before .before .before .before .before .before .before .before .before .before .pre .2
+    ∙ sym (l .inv .2) ∙ sym (c .before .before .before .before .times2 .ensures .0)
 
 same-length : tie.Need-same-length Inv-loop μ-loop
-same-length c = c .before .before .before .before .before .before .before .before .before .before .times .ensures .0 ∙ c .before .before .before .before .before .before .before .before .before .before .before .before .before .loop .inv .1
+same-length c =
+    c .before .before .before .before .before .before .before .before .before .before .times .ensures .0
+    ∙ c .before .before .before .before .before .before .before .before .before .before .before .before .before .loop .inv .1
 
 same-length-2 : tie.Need-same-length-2 Inv-loop μ-loop
-same-length-2 c = c .before .before .before .before .before .before .times2 .ensures .0 ∙ c .before .before .before .before .before .before .before .before .before .before .before .before .before .loop .inv .2
+same-length-2 c =
+    c .before .before .before .before .before .before .times2 .ensures .0
+    ∙ c .before .before .before .before .before .before .before .before .before .before .before .before .before .loop .inv .2
 
 returns : tie.Need-returns Inv-loop μ-loop
 returns c =
     let l = c .before .before .before .before .before .before .before .before .before .before .before .before .before .loop in
-    let z = c .before .before .before .before .before .before .before .before .before .before .before .before .before .before .before .before .args in
+    let s = c .before .before .before .before .before .before .before .before in
+    let z = s .before .before .before .before .before .before .before .before .args in
     found-here (numberIn (z .left .now)) (z .n) (numberIn (z .right .now)) (z .f) (l .u) _ _
-    (c .before .before .before .before .before .before .before .before .before .before .times .ensures .1 ∙ ap (λ (m : ℕ). m * z .n) (l .inv .3))
+    (c .before .before .before .before .before .before .before .before .before .before .times .ensures .1
+    ∙ ap (λ (m : ℕ). m * z .n) (l .inv .3))
     (c .before .before .before .before .before .before .times2 .ensures .1 ∙ ap (λ (m : ℕ). m * z .f) (l .inv .4))
     (omega (arith, c .before .before .before .before .before .before .before .before .before .before .before .before .loop-test .taken))
     (sym (c .before .is-below .ensures) ∙ not-true _ (c .if1 .taken))
@@ -83,10 +95,12 @@ loop-less c = search needs
 loop-again : tie.Need-loop-again Inv-loop μ-loop
 loop-again c =
     let l = c .before .before .before .before .before .before .before .before .before .before .before .before .before .loop in
-    let z = c .before .before .before .before .before .before .before .before .before .before .before .before .before .before .before .before .args in
+    let s = c .before .before .before .before .before .before .before .before in
+    let z = s .before .before .before .before .before .before .before .before .args in
     let A = numberIn (z .left .now) in
     let B = numberIn (z .right .now) in
-    let L = c .before .before .before .before .before .before .before .before .before .before .times .ensures .1 ∙ ap (λ (m : ℕ). m * z .n) (l .inv .3) in
+    let L = c .before .before .before .before .before .before .before .before .before .before .times .ensures .1
+    ∙ ap (λ (m : ℕ). m * z .n) (l .inv .3) in
     let R = c .before .before .before .before .before .before .times2 .ensures .1 ∙ ap (λ (m : ℕ). m * z .f) (l .inv .4) in (
       search needs,
       c .before .before .before .before .before .before .before .before .before .before .times .ensures .0 ∙ l .inv .1,

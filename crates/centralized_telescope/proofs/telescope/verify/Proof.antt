@@ -1,8 +1,8 @@
 -- `verify`: the settings, the list, then the judgement.
 use mathlib.Core.Path.{_≡_, sym, ap, _∙_}
-use Rattle.centralized_telescope.specs.Elements.{listCheck, listNumber, Lent}
+use Rattle.centralized_telescope.specs.core.Elements.{listCheck, listCheckBy, Lent}
 use Rattle.centralized_telescope.specs.inner.ListReading.{lentNow}
-use Rattle.centralized_telescope.specs.Params.{checked, checkedNumber}
+use Rattle.centralized_telescope.specs.core.Params.{checked, checkedBy}
 use Rattle.centralized_telescope.proofs.VerdictAnswers.{settings-refused, list-refused, left-to-judge}
 use borrow.Author.Needs.{needs}
 use Rattle.centralized_telescope.proofs.telescope.verify.Statement.{statement}
@@ -17,11 +17,11 @@ own s = let a = s .args in lentNow a.«data» a.ends a.marks a.indexes
 
 -- the settings pass
 lawful-settings : (s : tie.After-enum-told) → checked (entry (s .before .before) .args .p) ≡ 0
-lawful-settings s = sym (s .before .before .check-params .ensures) ∙ ap checkedNumber (s .enum-told .given .1)
+lawful-settings s = sym (s .before .before .check-params .ensures) ∙ ap checkedBy (s .enum-told .given .1)
 
 -- the list is accepted
 accepted : (s : tie.After-enum-told2) → listCheck (own (entry (s .before .before .before .before .before))) ≡ 0
-accepted s = sym (s .before .before .check-list .ensures) ∙ ap listNumber (s .enum-told2 .given .1)
+accepted s = sym (s .before .before .check-list .ensures) ∙ ap listCheckBy (s .enum-told2 .given .1)
 
 check-params-requires : tie.Need-check-params-requires
 check-params-requires c κs = search needs
@@ -37,7 +37,7 @@ returns c =
     let s = c .before in
     let a = entry (s .before .before) .args in
     settings-refused (a .p) (a .retry-counter .0) (a .search-counter .0) _ (s .k .given .0 .0)
-    (sym (s .before .before .check-params .ensures) ∙ ap checkedNumber (s .k .given .1))
+    (sym (s .before .before .check-params .ensures) ∙ ap checkedBy (s .k .given .1))
 
 check-list-requires : tie.Need-check-list-requires
 check-list-requires c κs = search needs
@@ -53,7 +53,7 @@ returns-2 c =
     let s = c .before in
     let a = entry (s .before .before .before .before .before) .args in
     list-refused (a .p) (a .retry-counter .0) (a .search-counter .0) _ (lawful-settings (s .before .before .before))
-    (s .k2 .given .0 .0) (sym (s .before .before .check-list .ensures) ∙ ap listNumber (s .k2 .given .1))
+    (s .k2 .given .0 .0) (sym (s .before .before .check-list .ensures) ∙ ap listCheckBy (s .k2 .given .1))
 
 judge-requires : tie.Need-judge-requires
 judge-requires c κs =

@@ -25,7 +25,13 @@ part-head-start : tie.Need-part-head-start
 part-head-start c = search needs
 
 part-head-end : tie.Need-part-head-end
-part-head-end c = omega (arith, length-append (c .before .write-number .last .1 .0) (0 ∷ 0 ∷ 0 ∷ 0 ∷ eight), ap length (c .before .write-number .ensures), length-bytesOf 8 (c .before .before .before .args .retry .0))
+part-head-end c =
+    omega (
+      arith,
+      length-append (c .before .write-number .last .1 .0) (0 ∷ 0 ∷ 0 ∷ 0 ∷ eight),
+      ap length (c .before .write-number .ensures),
+      length-bytesOf 8 (c .before .before .before .args .retry .0),
+    )
 
 write-number-requires-2 : tie.Need-write-number-requires-2
 write-number-requires-2 c κs = search needs
@@ -50,7 +56,8 @@ returns c =
     let m = c .before .before .before .before in
     let w = m .before .before .before in
     let z = w .before .before .args in
-    head-made (z .retry .0) (z .search .0) (z .count) _ _ (w .write-number .ensures) (m .write-number2 .ensures) _ (c .before .write-number3 .ensures)
+    head-made (z .retry .0) (z .search .0) (z .count) _ _ (w .write-number .ensures) (m .write-number2 .ensures) _
+    (c .before .write-number3 .ensures)
 
 pub content-head-spec : {M : Type 1} → statement M
 content-head-spec =

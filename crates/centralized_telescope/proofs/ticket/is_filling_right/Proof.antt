@@ -1,4 +1,4 @@
--- `is_filling_right`: what follows the place is copied to the front of an array, and looked at there.
+-- `is_filling_right`: what follows the offset is copied to the front of an array, and looked at there.
 use mathlib.Core.Path.{sym, ap, _∙_}
 use mathlib.Core.Bool.{not}
 use Prim.Native.Nat.{_-_}
@@ -6,7 +6,7 @@ use native.Mathlib.Omega.{arith}
 use borrow.Author.Needs.{needs}
 use lib.ListN.{drop}
 use lib.Seq.{length-take-le}
-use Rattle.centralized_telescope.specs.Blocks.{bodiesOf}
+use Rattle.centralized_telescope.specs.later.Blocks.{bodiesOf}
 use Rattle.centralized_telescope.proofs.TicketReading.{left-of-bodies, filling-long, filling-copied}
 use Rattle.centralized_telescope.proofs.ticket.is_filling_right.Statement.{statement}
 use Rattle.centralized_telescope.proofs.ticket.is_filling_right.Tie as tie
@@ -43,7 +43,8 @@ returns-2 c =
     let l = left-of-bodies (z .ticket .now) (z .end) in
     let n = c .before .before .before .before .before .before .bodies-size .result - z .end in
     ap not (c .some-over-zero .ensures)
-    ∙ filling-copied n (drop (z .end) (bodiesOf (z .ticket .now))) _ _ (omega arith) (omega arith) (c .before .before .before .copy-from-bodies .ensures)
+    ∙ filling-copied n (drop (z .end) (bodiesOf (z .ticket .now))) _ _ (omega arith) (omega arith)
+    (c .before .before .before .copy-from-bodies .ensures)
 
 pub is-filling-right-spec : {M : Type 1} → statement M
 is-filling-right-spec =

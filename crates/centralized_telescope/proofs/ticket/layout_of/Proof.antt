@@ -3,7 +3,7 @@ use Prim.Native.Nat.{_+_, _-_}
 use native.Mathlib.Omega.{arith}
 use borrow.Author.Needs.{needs}
 use lib.ListN.{drop}
-use Rattle.centralized_telescope.specs.Blocks.{bodiesOf}
+use Rattle.centralized_telescope.specs.later.Blocks.{bodiesOf}
 use Rattle.centralized_telescope.specs.inner.TicketReading.{HeadIs}
 use Rattle.centralized_telescope.proofs.TicketReading.{Passed, none-passed, one-passed, outside-passed, all-passed}
 use Rattle.centralized_telescope.proofs.ticket.layout_of.Statement.{statement}
@@ -26,7 +26,8 @@ enum-told c = search needs
 
 returns : tie.Need-returns Inv-loop μ-loop
 returns c =
-    outside-passed _ _ _ _ _ (c .before .before .before .before .loop .inv) (omega arith) (rw (c .enum-told .given .1) at (c .before .before .head-at .ensures))
+    outside-passed _ _ _ _ _ (c .before .before .before .before .loop .inv) (omega arith)
+    (rw (c .enum-told .given .1) at (c .before .before .head-at .ensures))
 
 enum-known-h : tie.Need-enum-known-h Inv-loop μ-loop
 enum-known-h c = search needs
@@ -35,8 +36,9 @@ enum-known-h c = search needs
 abbrev start : tie.After-h Inv-loop μ-loop → tie.Start Inv-loop μ-loop
 start g = g .before .before .before .before .before .before
 
--- the head is that of the element at the place, and one element more is passed
-head-is : (g : tie.After-h Inv-loop μ-loop) → HeadIs (g .h .given .0 .0) (drop (g .before .before .before .before .loop .at) (bodiesOf (start g .args .ticket .now)))
+-- the head is that of the element at the offset, and one element more is passed
+head-is : (g : tie.After-h Inv-loop μ-loop)
+    → HeadIs (g .h .given .0 .0) (drop (g .before .before .before .before .loop .at) (bodiesOf (start g .args .ticket .now)))
 head-is g = rw (g .h .given .1) at (g .before .before .head-at .ensures)
 
 passed : (g : tie.After-h Inv-loop μ-loop)

@@ -1,12 +1,12 @@
--- `read_elements`: the first i elements are passed and written, and the rest stand at the place.
+-- `read_elements`: the first i elements are passed and written, and the rest stand at the offset.
 use mathlib.Core.Path.{_≡_, refl}
 use Prim.Native.Nat.{_+_, _-_, _<_}
 use native.Mathlib.Omega.{arith}
 use borrow.Author.Needs.{needs}
 use lib.ListN.{length, take, drop, length-set}
-use Rattle.centralized_telescope.specs.Elements.{lentOf}
-use Rattle.centralized_telescope.specs.ProofList.{listOver, withBuffers}
-use Rattle.centralized_telescope.specs.Blocks.{bodiesOf}
+use Rattle.centralized_telescope.specs.core.Elements.{lentOf}
+use Rattle.centralized_telescope.specs.later.ProofList.{listOver, withBuffers}
+use Rattle.centralized_telescope.specs.later.Blocks.{bodiesOf}
 use Rattle.centralized_telescope.specs.inner.TicketReading.{HeadIs}
 use Rattle.centralized_telescope.specs.laws.TestLaws.{not-both}
 use Rattle.centralized_telescope.proofs.ProofWriting.{none-written}
@@ -78,7 +78,7 @@ returns c = absurd (never c)
 abbrev start : tie.After-h Inv-loop μ-loop → tie.Start Inv-loop μ-loop
 start g = g .before .before .before .before .before .before .before .before .before .before
 
--- the head is that of the element at the place, and one element more is passed
+-- the head is that of the element at the offset, and one element more is passed
 head-is : (g : tie.After-h Inv-loop μ-loop)
     → HeadIs (g .h .given .0 .0) (drop (g .before .before .before .before .loop .at) (bodiesOf (start g .args .ticket .now)))
 head-is g = rw (g .h .given .1) at (g .before .before .head-at .ensures)

@@ -5,17 +5,18 @@ use native.Mathlib.Omega.{arith}
 use borrow.Author.Needs.{needs}
 use lib.ListN.{length}
 use lib.Seq.{length-take-le}
-use Rattle.sampling.specs.BigEndian.{bytesOf}
-use Rattle.centralized_telescope.specs.Elements.{elements}
+use Rattle.sampling.specs.core.BigEndian.{bytesOf}
+use Rattle.centralized_telescope.specs.core.Elements.{elements}
 use Rattle.centralized_telescope.specs.inner.ListReading.{lentNow}
 use Rattle.centralized_telescope.specs.laws.ElementsLaws.{length-elements}
 use Rattle.centralized_telescope.specs.laws.TicketsReadLaws.{content-length}
 use Rattle.centralized_telescope.proofs.TicketWriting.{length-headOf, content-put}
 use Rattle.centralized_telescope.proofs.ticket.write_content.Statement.{statement}
 use Rattle.centralized_telescope.proofs.ticket.write_content.Tie as tie
+use Rattle.centralized_telescope.specs.later.Tickets.{ticketHeadBytes}
 
 -- what stands before the elements has room
-room : (o : tie.Start) → 24 ≤ length (o .args .out .now)
+room : (o : tie.Start) → ticketHeadBytes ≤ length (o .args .out .now)
 room o =
     let z = o .args in
     omega (arith, o .pre .2, content-length (z .retry .0) (z .search .0) (elements (lentNow z.«data» z.ends z.marks z.indexes)))

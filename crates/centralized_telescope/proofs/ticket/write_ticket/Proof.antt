@@ -4,10 +4,10 @@ use Prim.Native.Nat.{ℕ, _+_, _≤_}
 use native.Mathlib.Omega.{arith}
 use borrow.Author.Needs.{needs}
 use lib.ListN.{length}
-use Rattle.centralized_telescope.specs.Elements.{elements, listCheck, listNumber, lentOf}
+use Rattle.centralized_telescope.specs.core.Elements.{elements, listCheck, listCheckBy, lentOf}
 use Rattle.centralized_telescope.specs.inner.ListReading.{lentNow}
-use Rattle.centralized_telescope.specs.Blocks.{blockCount}
-use Rattle.centralized_telescope.specs.Tickets.{content}
+use Rattle.centralized_telescope.specs.later.Blocks.{blockCount}
+use Rattle.centralized_telescope.specs.later.Tickets.{content, ticketHeadBytes}
 use Rattle.centralized_telescope.specs.laws.ElementsLaws.{few-elements}
 use Rattle.centralized_telescope.specs.laws.TicketsReadLaws.{content-length}
 use Rattle.centralized_telescope.proofs.TicketAnswers.{write-refused, write-short, write-done}
@@ -20,10 +20,10 @@ accepted : (s : tie.After-enum-told)
     (s .before .before .before .before .before .before .before .before .args .ends .now)
     (s .before .before .before .before .before .before .before .before .args .marks .now)
     (s .before .before .before .before .before .before .before .before .args .indexes .now)) ≡ 0
-accepted s = sym (s .before .before .check-list .ensures) ∙ ap listNumber (s .enum-told .given .1)
+accepted s = sym (s .before .before .check-list .ensures) ∙ ap listCheckBy (s .enum-told .given .1)
 
 -- 24 and the size that was worked out are the content's length
-size-is : (s : tie.After-elements-size) → 24 + s .elements-size .result
+size-is : (s : tie.After-elements-size) → ticketHeadBytes + s .elements-size .result
     ≡ length (content (s .before .before .before .before .before .before .before .before .before .args .retry-counter .0)
     (s .before .before .before .before .before .before .before .before .before .args .search-counter .0)
     (elements (lentOf (s .before .before .before .before .before .before .before .before .before .args .«data» .now)
@@ -54,7 +54,7 @@ returns : tie.Need-returns
 returns c =
     let z = c .before .before .before .before .before .before .before .before .before .args in
     write-refused (z .retry-counter .0) (z .search-counter .0) (lentNow z.«data» z.ends z.marks z.indexes) (z .ticket .now)
-    (c .before .k .given .0 .0) (sym (c .before .before .before .check-list .ensures) ∙ ap listNumber (c .before .k .given .1))
+    (c .before .k .given .0 .0) (sym (c .before .before .before .check-list .ensures) ∙ ap listCheckBy (c .before .k .given .1))
 
 elements-size-requires : tie.Need-elements-size-requires
 elements-size-requires c κs = accepted c
@@ -77,7 +77,7 @@ returns-2 c =
 write-content-requires : tie.Need-write-content-requires
 write-content-requires c κs = (
   accepted (c .before .before .before),
-  ap (λ (k : ℕ). blockCount (24 + k)) (c .before .before .elements-size .ensures .0),
+  ap (λ (k : ℕ). blockCount (ticketHeadBytes + k)) (c .before .before .elements-size .ensures .0),
   omega (arith, size-is (c .before .before), c .before .if1 .left),
 )
 

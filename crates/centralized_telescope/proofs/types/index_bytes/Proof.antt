@@ -13,8 +13,10 @@ eight-bytes-requires c κs = search needs
 
 returns : tie.Need-returns
 returns c =
-    let z = c .before .before .before .args .index in
-    (omega (arith, ap length (c .eight-bytes .ensures), length-bytesOf 8 (z .number)), index-read (z .mark) (z .number) _ (c .before .if1 .taken) (c .eight-bytes .ensures))
+    let z = c .before .before .before .args .index in (
+      omega (arith, ap length (c .eight-bytes .ensures), length-bytesOf 8 (z .number)),
+      index-read (z .mark) (z .number) _ (c .before .if1 .taken) (c .eight-bytes .ensures),
+    )
 
 returns-2 : tie.Need-returns-2
 returns-2 c =

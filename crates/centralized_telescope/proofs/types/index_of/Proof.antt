@@ -9,7 +9,8 @@ shared-slice-read-if1 : tie.Need-shared-slice-read-if1
 shared-slice-read-if1 c = search needs
 
 returns : tie.Need-returns
-returns c = let z = c .before .before .args in mark-none (getD (z .marks .now) (z .place) 0) (getD (z .indexes .now) (z .place) 0) (c .if1 .taken)
+returns c =
+    let z = c .before .before .args in mark-none (getD (z .marks .now) (z .place) 0) (getD (z .indexes .now) (z .place) 0) (c .if1 .taken)
 
 mul-t7 : tie.Need-mul-t7
 mul-t7 c = search needs
@@ -18,7 +19,9 @@ shared-slice-read-t9 : tie.Need-shared-slice-read-t9
 shared-slice-read-t9 c = search needs
 
 returns-2 : tie.Need-returns-2
-returns-2 c = let z = c .before .before .before .args in mark-one (getD (z .marks .now) (z .place) 0) (getD (z .indexes .now) (z .place) 0) (c .before .if1 .left)
+returns-2 c =
+    let z = c .before .before .before .args in
+    mark-one (getD (z .marks .now) (z .place) 0) (getD (z .indexes .now) (z .place) 0) (c .before .if1 .left)
 
 pub index-of-spec : {M : Type 1} → statement M
 index-of-spec =

@@ -16,12 +16,14 @@ returns-2 c =
 returns-3 : tie.Need-returns-3
 returns-3 c =
     let a = c .before .before .before .args in
-    a-mark (a .ends) (a .marks) (a .indexes) (a .mark-over) (a .end-wrong) (a .data-long) (c .before .before .if1 .left) (c .before .if2 .left) (c .if3 .taken)
+    a-mark (a .ends) (a .marks) (a .indexes) (a .mark-over) (a .end-wrong) (a .data-long) (c .before .before .if1 .left)
+    (c .before .if2 .left) (c .if3 .taken)
 
 returns-4 : tie.Need-returns-4
 returns-4 c =
     let a = c .before .before .before .before .args in
-    an-end (a .ends) (a .marks) (a .indexes) (a .mark-over) (a .end-wrong) (a .data-long) (c .before .before .before .if1 .left) (c .before .before .if2 .left) (c .before .if3 .left) (c .if4 .taken)
+    an-end (a .ends) (a .marks) (a .indexes) (a .mark-over) (a .end-wrong) (a .data-long) (c .before .before .before .if1 .left)
+    (c .before .before .if2 .left) (c .before .if3 .left) (c .if4 .taken)
 
 returns-5 : tie.Need-returns-5
 returns-5 c =
@@ -32,14 +34,18 @@ returns-5 c =
 returns-6 : tie.Need-returns-6
 returns-6 c =
     let a = c .before .before .before .before .before .before .args in
-    too-long (a .ends) (a .marks) (a .indexes) (a .mark-over) (a .end-wrong) (a .data-long) (c .before .before .before .before .before .if1 .left)
-    (c .before .before .before .before .if2 .left) (c .before .before .before .if3 .left) (c .before .before .if4 .left) (c .before .if5 .left) (c .if6 .taken)
+    too-long (a .ends) (a .marks) (a .indexes) (a .mark-over) (a .end-wrong) (a .data-long)
+    (c .before .before .before .before .before .if1 .left)
+    (c .before .before .before .before .if2 .left) (c .before .before .before .if3 .left) (c .before .before .if4 .left)
+    (c .before .if5 .left) (c .if6 .taken)
 
 returns-7 : tie.Need-returns-7
 returns-7 c =
     let a = c .before .before .before .before .before .before .args in
-    accepted (a .ends) (a .marks) (a .indexes) (a .mark-over) (a .end-wrong) (a .data-long) (c .before .before .before .before .before .if1 .left)
-    (c .before .before .before .before .if2 .left) (c .before .before .before .if3 .left) (c .before .before .if4 .left) (c .before .if5 .left) (c .if6 .left)
+    accepted (a .ends) (a .marks) (a .indexes) (a .mark-over) (a .end-wrong) (a .data-long)
+    (c .before .before .before .before .before .if1 .left)
+    (c .before .before .before .before .if2 .left) (c .before .before .before .if3 .left) (c .before .before .if4 .left)
+    (c .before .if5 .left) (c .if6 .left)
 
 pub list-answer-spec : {M : Type 1} → statement M
 list-answer-spec =

@@ -4,7 +4,7 @@ use mathlib.Core.Bool.{true, false}
 use Prim.Native.Nat.{_-_, _≤_}
 use borrow.Author.Needs.{needs}
 use lib.ListN.{length, drop}
-use Rattle.centralized_telescope.specs.Elements.{dataLong}
+use Rattle.centralized_telescope.specs.core.Elements.{dataLong}
 use Rattle.centralized_telescope.proofs.ListFaults.{data-next, data-done}
 use Rattle.centralized_telescope.proofs.types.some_data_long.Statement.{statement}
 use Rattle.centralized_telescope.proofs.types.some_data_long.Tie as tie
@@ -35,7 +35,8 @@ returns c =
     let o = c .before .before .before .before .before in
     let l = o .loop in
     let z = o .before .before .args in
-    sym (data-next (z .ends .now) (l .i) (l .from) _ (search needs) (c .before .before .wide .ensures .0) _ true (c .before .is-data-long .ensures) (c .if1 .taken)) ∙ l .inv .1
+    sym (data-next (z .ends .now) (l .i) (l .from) _ (search needs) (c .before .before .wide .ensures .0) _ true
+    (c .before .is-data-long .ensures) (c .if1 .taken)) ∙ l .inv .1
 
 add-i : tie.Need-add-i Inv-loop μ-loop
 add-i c = search needs
@@ -47,8 +48,11 @@ loop-again : tie.Need-loop-again Inv-loop μ-loop
 loop-again c =
     let o = c .before .before .before .before .before in
     let l = o .loop in
-    let z = o .before .before .args in
-    (search needs, sym (data-next (z .ends .now) (l .i) (l .from) _ (search needs) (c .before .before .wide .ensures .0) _ false (c .before .is-data-long .ensures) (c .if1 .left)) ∙ l .inv .1)
+    let z = o .before .before .args in (
+      search needs,
+      sym (data-next (z .ends .now) (l .i) (l .from) _ (search needs) (c .before .before .wide .ensures .0) _ false
+          (c .before .is-data-long .ensures) (c .if1 .left)) ∙ l .inv .1,
+    )
 
 returns-2 : tie.Need-returns-2 Inv-loop μ-loop
 returns-2 c =

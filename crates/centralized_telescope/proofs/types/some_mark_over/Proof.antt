@@ -5,7 +5,7 @@ use borrow.Author.Needs.{needs}
 use borrow.Author.Tests.{lt-ltb, le-ltb}
 use lib.Dec.{ltb}
 use lib.ListN.{length, drop}
-use Rattle.centralized_telescope.specs.Elements.{markOver}
+use Rattle.centralized_telescope.specs.core.Elements.{markOver}
 use Rattle.centralized_telescope.specs.laws.ListsLaws.{some-here, some-behind, some-done}
 use Rattle.centralized_telescope.proofs.types.some_mark_over.Statement.{statement}
 use Rattle.centralized_telescope.proofs.types.some_mark_over.Tie as tie
@@ -23,7 +23,8 @@ shared-slice-read-if1 : tie.Need-shared-slice-read-if1 Inv-loop μ-loop
 shared-slice-read-if1 c = search needs
 
 returns : tie.Need-returns Inv-loop μ-loop
-returns c = let l = c .before .before .before .loop in sym (some-here (ltb 1) _ (l .i) 0 (search needs) (lt-ltb 1 _ (c .if1 .taken))) ∙ l .inv .1
+returns c =
+    let l = c .before .before .before .loop in sym (some-here (ltb 1) _ (l .i) 0 (search needs) (lt-ltb 1 _ (c .if1 .taken))) ∙ l .inv .1
 
 add-i : tie.Need-add-i Inv-loop μ-loop
 add-i c = search needs
@@ -32,7 +33,9 @@ loop-less : tie.Need-loop-less Inv-loop μ-loop
 loop-less c = search needs
 
 loop-again : tie.Need-loop-again Inv-loop μ-loop
-loop-again c = let l = c .before .before .before .loop in (search needs, sym (some-behind (ltb 1) _ (l .i) 0 (search needs) (le-ltb 1 _ (c .if1 .left))) ∙ l .inv .1)
+loop-again c =
+    let l = c .before .before .before .loop in
+    (search needs, sym (some-behind (ltb 1) _ (l .i) 0 (search needs) (le-ltb 1 _ (c .if1 .left))) ∙ l .inv .1)
 
 returns-2 : tie.Need-returns-2 Inv-loop μ-loop
 returns-2 c = let l = c .before .loop in sym (some-done (ltb 1) _ (l .i) (search needs)) ∙ l .inv .1

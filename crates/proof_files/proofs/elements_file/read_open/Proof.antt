@@ -3,7 +3,7 @@ use mathlib.Core.Path.{_≡_}
 use native.Mathlib.Omega.{arith}
 use borrow.Author.Needs.{needs}
 use lib.ListN.{length}
-use Rattle.text.specs.Lists.{Within}
+use Rattle.proof_files.specs.Lists.{Within}
 use Rattle.proof_files.proofs.elements_file.read_open.Statement.{statement}
 use Rattle.proof_files.proofs.elements_file.read_open.Tie as tie
 

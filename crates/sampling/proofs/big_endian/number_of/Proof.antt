@@ -4,7 +4,7 @@ use Prim.Native.Nat.{_-_, _^_, _≤_, _<_, min}
 use native.Mathlib.Omega.{arith}
 use borrow.Author.Needs.{needs}
 use lib.ListN.{length, getD}
-use Rattle.sampling.specs.BigEndian.{bigEndian}
+use Rattle.sampling.specs.core.BigEndian.{bigEndian}
 use Rattle.sampling.proofs.BytesRead.{none-read, room-for-byte, byte-added, byte-read}
 use Rattle.sampling.proofs.big_endian.number_of.Statement.{statement}
 use Rattle.sampling.proofs.big_endian.number_of.Tie as tie
@@ -31,7 +31,9 @@ cast-v : tie.Need-cast-v Inv-loop μ-loop
 cast-v c = omega (arith, c .shared-slice-known2 .given (c .before .before .loop .i))
 
 add-v : tie.Need-add-v Inv-loop μ-loop
-add-v c = let l = c .before .before .loop in omega (arith, room-for-byte (l .v) (l .i) (l .inv .2) (omega arith), c .shared-slice-known2 .given (l .i))
+add-v c =
+    let l = c .before .before .loop in
+    omega (arith, room-for-byte (l .v) (l .i) (l .inv .2) (omega arith), c .shared-slice-known2 .given (l .i))
 
 add-i : tie.Need-add-i Inv-loop μ-loop
 add-i c = omega arith

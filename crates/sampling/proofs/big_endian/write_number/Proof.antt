@@ -5,13 +5,14 @@ use Prim.Native.Nat.{_≤_}
 use native.Mathlib.Omega.{arith}
 use borrow.Author.Needs.{needs}
 use lib.ListN.{length, drop, length-set}
-use Rattle.sampling.specs.BigEndian.{bytesOf}
+use Rattle.sampling.specs.core.BigEndian.{bytesOf}
 use Rattle.sampling.proofs.Written.{none-written, one-written, all-written}
 use Rattle.sampling.proofs.big_endian.write_number.Statement.{statement}
 use Rattle.sampling.proofs.big_endian.write_number.Tie as tie
 
 abbrev Inv-loop : tie.InvT-loop
-Inv-loop v out₀ rest₀ k₀ out rest k = (k ≤ length out) × (length out ≡ length out₀) × (bytesOf k rest ++ drop k out ≡ bytesOf (length out₀) v)
+Inv-loop v out₀ rest₀ k₀ out rest k =
+    (k ≤ length out) × (length out ≡ length out₀) × (bytesOf k rest ++ drop k out ≡ bytesOf (length out₀) v)
 
 abbrev μ-loop : tie.MeasureT-loop
 μ-loop v out₀ rest₀ k₀ out rest k = k
@@ -33,8 +34,11 @@ loop-less c = search needs
 
 loop-again : tie.Need-loop-again Inv-loop μ-loop
 loop-again c =
-    let l = c .before .loop in
-    (simp length-set (omega arith), simp length-set (omega arith), one-written (l .k) (l .rest) (l .out) _ (omega arith) (omega arith) (l .inv .2))
+    let l = c .before .loop in (
+      simp length-set (omega arith),
+      simp length-set (omega arith),
+      one-written (l .k) (l .rest) (l .out) _ (omega arith) (omega arith) (l .inv .2),
+    )
 
 same-length : tie.Need-same-length Inv-loop μ-loop
 same-length c = search needs

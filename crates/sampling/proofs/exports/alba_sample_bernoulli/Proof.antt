@@ -4,8 +4,8 @@ use mathlib.Core.Bool.{Bool, true, false, cond}
 use mathlib.Core.List.{List}
 use Prim.Native.Nat.{ℕ}
 use borrow.Author.Needs.{needs}
-use Rattle.sampling.specs.Sample.{valueOf, bernoulli}
-use Rattle.sampling.specs.Exports.{exportedBernoulli}
+use Rattle.sampling.specs.core.Sample.{valueOf, bernoulli}
+use Rattle.sampling.specs.core.Exports.{exportedBernoulli}
 use Rattle.sampling.proofs.ExportedAnswers.{chance-h-refused, chance-told}
 use denote.Ref.{now}
 use Rattle.sampling.proofs.exports.alba_sample_bernoulli.Statement.{statement}
@@ -21,11 +21,13 @@ sample-bernoulli-requires : tie.Need-sample-bernoulli-requires
 sample-bernoulli-requires c κs = search needs
 
 answer : (c : tie.After-sample-bernoulli) (t : Bool) → c .sample-bernoulli .result ≡ t
-    → (let a = c .before .before .before .before .args in cond t 1 0 ≡ exportedBernoulli (now (a .h)) (record { hi = a .x-high; lo = a .x-low }))
+    → (let a = c .before .before .before .before .args in
+    cond t 1 0 ≡ exportedBernoulli (now (a .h)) (record { hi = a .x-high; lo = a .x-low }))
 answer c t e =
     let a = c .before .before .before .before .args in
     chance-told (now (a .h)) (record { hi = a .x-high; lo = a .x-low }) (c .before .before .if1 .left) t
-    (sym e ∙ c .sample-bernoulli .ensures ∙ ap (λ (l : List ℕ). bernoulli l (valueOf (record { hi = a .x-high; lo = a .x-low }))) (c .before .seed-of .ensures))
+    (sym e ∙ c .sample-bernoulli .ensures
+    ∙ ap (λ (l : List ℕ). bernoulli l (valueOf (record { hi = a .x-high; lo = a .x-low }))) (c .before .seed-of .ensures))
 
 returns-2 : tie.Need-returns-2
 returns-2 c = answer (c .before) true (c .if2 .taken)

@@ -1,7 +1,7 @@
 -- `alba_threshold`: the two refusals, else both halves of X.
 use mathlib.Core.Path.{sym, ap, _∙_, subst}
 use borrow.Author.Needs.{needs}
-use Rattle.sampling.specs.Sample.{thresholdNumber}
+use Rattle.sampling.specs.later.Threshold.{convertedBy}
 use Rattle.sampling.proofs.ExportedAnswers.{room-refused, q-refused, q-converted}
 use Prim.Native.Nat.{_^_, _<_}
 use native.Mathlib.Omega.{arith}
@@ -24,7 +24,10 @@ enum-told : tie.Need-enum-told
 enum-told c = search needs
 
 returns-2 : tie.Need-returns-2
-returns-2 c = let a = c .before .before .before .before .before .args in q-refused (a .q) (now (a .out)) (c .before .before .before .if1 .left) (sym (c .before .before .threshold-of .ensures) ∙ ap thresholdNumber (c .enum-told .given .1))
+returns-2 c =
+    let a = c .before .before .before .before .before .args in
+    q-refused (a .q) (now (a .out)) (c .before .before .before .if1 .left)
+    (sym (c .before .before .threshold-of .ensures) ∙ ap convertedBy (c .enum-told .given .1))
 
 slice-write-out : tie.Need-slice-write-out
 slice-write-out c = search needs
@@ -45,7 +48,8 @@ low-half-fits c =
 returns-3 : tie.Need-returns-3
 returns-3 c =
     let a = c .before .before .before .before .before .before .args in
-    q-converted (a .q) (now (a .out)) (c .before .before .before .before .if1 .left) (c .before .t .given .0 .0) (low-half-fits c) (sym (c .before .before .before .threshold-of .ensures) ∙ ap thresholdNumber (c .before .t .given .1))
+    q-converted (a .q) (now (a .out)) (c .before .before .before .before .if1 .left) (c .before .t .given .0 .0) (low-half-fits c)
+    (sym (c .before .before .before .threshold-of .ensures) ∙ ap convertedBy (c .before .t .given .1))
 
 pub alba-threshold-spec : {M : Type 1} → statement M
 alba-threshold-spec =

@@ -19,7 +19,8 @@ returns c =
     let m = c .before .before in
     let a = m .before .before .before .args in
     let near : 2 ^ 64 - 1 - a .i .lo ≤ m .mod-u128 .result = omega arith in
-    none-near-the-top (a .n) (a .i .hi) (a .i .lo) (m .before .if1 .taken) (subst (λ (k : ℕ). 2 ^ 64 - 1 - a .i .lo ≤ k) (m .mod-u128 .ensures) near)
+    none-near-the-top (a .n) (a .i .hi) (a .i .lo) (m .before .if1 .taken)
+    (subst (λ (k : ℕ). 2 ^ 64 - 1 - a .i .lo ≤ k) (m .mod-u128 .ensures) near)
 
 mod-u128-requires-2 : tie.Need-mod-u128-requires-2
 mod-u128-requires-2 c κs = search needs
@@ -37,7 +38,8 @@ returns-2 c =
     let a = s .args in
     ap (λ (k : ℕ). (0, k)) (c .mod-u1282 .ensures)
     ∙ ⊎-elim
-    (λ w. value-below-it (a .n) (a .i .hi) (a .i .lo) (w .0 .taken) (subst (λ (k : ℕ). k < 2 ^ 64 - 1 - a .i .lo) (w .1 .ensures) (w .3 .left)))
+    (λ w. value-below-it (a .n) (a .i .hi) (a .i .lo) (w .0 .taken)
+    (subst (λ (k : ℕ). k < 2 ^ 64 - 1 - a .i .lo) (w .1 .ensures) (w .3 .left)))
     (λ w. let f = fit s in value-at-a-lower-half (a .n) (a .i .hi) (a .i .lo) (s .pre) (f .0) (not-full (a .i .hi) (f .1) (w .left)) (f .2))
     (c .before .if1 .came)
 

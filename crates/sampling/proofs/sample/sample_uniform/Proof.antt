@@ -3,7 +3,7 @@ use mathlib.Core.Path.{sym, ap, _∙_}
 use Prim.Native.Nat.{ℕ, _%_, _<_}
 use native.Mathlib.Omega.{arith}
 use borrow.Author.Needs.{needs}
-use Rattle.sampling.specs.Sample.{modNotPower}
+use Rattle.sampling.specs.core.Sample.{modNotPower}
 use Rattle.sampling.specs.laws.SampleLaws.{refused-at-zero, at-a-power, not-at-a-power}
 use Rattle.sampling.proofs.sample.sample_uniform.Statement.{statement}
 use Rattle.sampling.proofs.sample.sample_uniform.Tie as tie

@@ -33,8 +33,11 @@ returns c =
     let s = c .before .before .before in
     let o = s .before .before in
     let h = o .args .t1 in
-    let first = first-read h (o .good .0 .1 .0 .1) (s .number-of .result) (s .number-of .ensures .0) in
-    (first, sixteen-bytes h (s .number-of .result) (c .number-of2 .result) first (second-read h (o .good .0 .1 .0 .1) (c .number-of2 .result) (16 - 8) (omega arith) (c .number-of2 .ensures .0)))
+    let first = first-read h (o .good .0 .1 .0 .1) (s .number-of .result) (s .number-of .ensures .0) in (
+      first,
+      sixteen-bytes h (s .number-of .result) (c .number-of2 .result) first
+          (second-read h (o .good .0 .1 .0 .1) (c .number-of2 .result) (16 - 8) (omega arith) (c .number-of2 .ensures .0)),
+    )
 
 pub u128-of-spec : {M : Type 1} → statement M
 u128-of-spec =

@@ -49,7 +49,8 @@ returns-4 : tie.Need-returns-4
 returns-4 c = let s = c .before .before .before .before in high-half (s .args .q) (held s) (c .before .if3 .left) (c .if4 .taken)
 
 returns-5 : tie.Need-returns-5
-returns-5 c = let s = c .before .before .before .before in full-halves (s .args .q) (held s) (inside-no-nan (s .args .q) (s .pre)) (c .if4 .left)
+returns-5 c =
+    let s = c .before .before .before .before in full-halves (s .args .q) (held s) (inside-no-nan (s .args .q) (s .pre)) (c .if4 .left)
 
 pub unit-threshold-spec : {M : Type 1} → statement M
 unit-threshold-spec =

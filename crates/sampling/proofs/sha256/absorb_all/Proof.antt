@@ -43,7 +43,8 @@ absorb-aligned-requires-2 : tie.Need-absorb-aligned-requires-2
 absorb-aligned-requires-2 c κs =
     let h = c .before .absorb-end in
     let z = c .before .before .before .before .before .before .before .args in
-    let e : h .result .len ≡ z .h .len + (64 - z .h .len % 64) = len-after (z .h) (h .result) _ (h .ensures) ∙ rw (length-take-le (64 - z .h .len % 64) (z .s .now) (omega arith)) in
+    let e : h .result .len ≡ z .h .len + (64 - z .h .len % 64) = len-after (z .h) (h .result) _ (h .ensures)
+    ∙ rw (length-take-le (64 - z .h .len % 64) (z .s .now) (omega arith)) in
     (omega arith, simp (length-take, length-drop) (omega arith))
 
 returns-3 : tie.Need-returns-3

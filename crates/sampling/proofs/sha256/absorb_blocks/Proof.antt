@@ -6,7 +6,7 @@ use native.Mathlib.Omega.{arith}
 use borrow.Author.Needs.{needs}
 use lib.ListN.{length, take}
 use lib.Seq.{take-length}
-use Rattle.sampling.specs.Hasher.{absorbBytes}
+use Rattle.sampling.specs.later.Hasher.{absorbBytes}
 use Rattle.sampling.specs.laws.HasherLaws.{one-block, whole-blocks}
 use Rattle.sampling.specs.declared.sha256.Hasher.{Hasher}
 use Rattle.sampling.proofs.sha256.absorb_blocks.Statement.{statement}
@@ -43,7 +43,8 @@ loop-again c =
           rw (c .compress .ensures, i .inv .2 b l)
           (sym
           (ap (λ (h : Hasher). h .state)
-          (one-block (record { state = a .args .h .state; block = b; len = a .args .h .len }) (a .args .s .now) l (a .pre .0) (i .o) (i .inv .1) (omega arith)))),
+          (one-block (record { state = a .args .h .state; block = b; len = a .args .h .len }) (a .args .s .now) l (a .pre .0) (i .o)
+          (i .inv .1) (omega arith)))),
     )
 
 add-t10 : tie.Need-add-t10 Inv-loop μ-loop
@@ -55,7 +56,8 @@ returns c =
     let h = a .args .h in
     let l : length (h .block) ≡ 64 = search needs in
     let e : c .before .loop .o ≡ length (a .args .s .now) = omega arith in
-    rw (rw (e, take-length (a .args .s .now)) at (c .before .loop .inv .2 (h .block) l)) (sym (whole-blocks h (a .args .s .now) l (a .pre .0) (a .pre .1) (a .pre .2)))
+    rw (rw (e, take-length (a .args .s .now)) at (c .before .loop .inv .2 (h .block) l))
+    (sym (whole-blocks h (a .args .s .now) l (a .pre .0) (a .pre .1) (a .pre .2)))
 
 pub absorb-blocks-spec : {M : Type 1} → statement M
 absorb-blocks-spec =

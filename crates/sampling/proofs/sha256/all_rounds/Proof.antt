@@ -1,6 +1,6 @@
 -- `all_rounds`: the first rounds and the later ones.
 use borrow.Author.Needs.{needs}
-use Rattle.sampling.specs.Fips180.{block}
+use Rattle.sampling.specs.core.Fips180.{block}
 use Rattle.sampling.proofs.Rounds.{no-round}
 use Rattle.sampling.proofs.sha256.all_rounds.Statement.{statement}
 use Rattle.sampling.proofs.sha256.all_rounds.Tie as tie

@@ -1,6 +1,6 @@
 -- `compress`: the rounds, and the sum with the hash value.
 use borrow.Author.Needs.{needs}
-use Rattle.sampling.specs.Fips180.{compressed}
+use Rattle.sampling.specs.core.Fips180.{compressed}
 use Rattle.sampling.proofs.sha256.compress.Statement.{statement}
 use Rattle.sampling.proofs.sha256.compress.Tie as tie
 

@@ -5,19 +5,19 @@ use native.Mathlib.Omega.{arith}
 use borrow.Author.Needs.{needs}
 use lib.ListN.{drop, length, take, length-take, length-drop}
 use lib.Seq.{take-all}
-use Rattle.sampling.specs.Fips180.{joined, digestOf}
+use Rattle.sampling.specs.core.Fips180.{wordBytes, digestOf}
 use Rattle.sampling.proofs.Written.{put-size, put-word}
 use Rattle.sampling.proofs.sha256.digest_of.Statement.{statement}
 use Rattle.sampling.proofs.sha256.digest_of.Tie as tie
 
 abbrev Inv-loop : tie.InvT-loop
-Inv-loop words d₀ n₀ d n = (n ≤ 8) × (length words ≡ 8) × (length d ≡ 32) × (take (4 * n) d ≡ joined (take n words))
+Inv-loop words d₀ n₀ d n = (n ≤ 8) × (length words ≡ 8) × (length d ≡ 32) × (take (4 * n) d ≡ wordBytes (take n words))
 
 abbrev μ-loop : tie.MeasureT-loop
 μ-loop words d₀ n₀ d n = 8 - n
 
 loop-holds : tie.Need-loop-holds Inv-loop μ-loop
-unfolding joined
+unfolding wordBytes
 loop-holds c = (search needs, refl, refl, refl)
 
 mul-at : tie.Need-mul-at Inv-loop μ-loop
@@ -63,8 +63,10 @@ loop-again c =
     let size : k ≡ 4 = omega arith in (
       search needs,
       refl,
-      put-size (l .d) (w .last .1 .0) (take k (drop (4 * l .n) (l .d))) (4 * l .n) k 32 (x .result) (l .inv .2) (omega arith) (omega arith) (w .ensures),
-      put-word _ (l .d) (w .last .1 .0) (take k (drop (4 * l .n) (l .d))) _ (l .n) (x .result) (search needs) (omega arith) four (w .ensures) (x .ensures) (l .inv .3),
+      put-size (l .d) (w .last .1 .0) (take k (drop (4 * l .n) (l .d))) (4 * l .n) k 32 (x .result) (l .inv .2) (omega arith) (omega arith)
+          (w .ensures),
+      put-word _ (l .d) (w .last .1 .0) (take k (drop (4 * l .n) (l .d))) _ (l .n) (x .result) (search needs) (omega arith) four
+          (w .ensures) (x .ensures) (l .inv .3),
     )
 
 returns : tie.Need-returns Inv-loop μ-loop

@@ -3,7 +3,7 @@ use mathlib.Core.Path.{_≡_}
 use Prim.Native.Nat.{_-_, _%_, _≤_}
 use native.Mathlib.Omega.{arith}
 use borrow.Author.Needs.{needs}
-use Rattle.sampling.specs.Fips180.{block}
+use Rattle.sampling.specs.core.Fips180.{block}
 use Rattle.sampling.specs.inner.HashInner.{RoundsFrom}
 use Rattle.sampling.proofs.sha256.first_rounds.Statement.{statement}
 use Rattle.sampling.proofs.sha256.first_rounds.Tie as tie

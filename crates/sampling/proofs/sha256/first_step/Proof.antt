@@ -1,6 +1,6 @@
 -- `first_step`: the block's word is the schedule's.
 use borrow.Author.Needs.{needs}
-use Rattle.sampling.specs.Fips180.{block}
+use Rattle.sampling.specs.core.Fips180.{block}
 use Rattle.sampling.proofs.Schedule.{block-word}
 use Rattle.sampling.proofs.sha256.first_step.Statement.{statement}
 use Rattle.sampling.proofs.sha256.first_step.Tie as tie

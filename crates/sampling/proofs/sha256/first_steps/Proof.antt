@@ -1,7 +1,7 @@
 -- `first_steps`: eight steps, one after the other.
 use native.Mathlib.Omega.{arith}
 use borrow.Author.Needs.{needs}
-use Rattle.sampling.specs.Fips180.{block}
+use Rattle.sampling.specs.core.Fips180.{block}
 use Rattle.sampling.proofs.Rounds.{eight}
 use Rattle.sampling.proofs.sha256.first_steps.Statement.{statement}
 use Rattle.sampling.proofs.sha256.first_steps.Tie as tie
@@ -55,12 +55,14 @@ first-step-requires-7 c κs =
 
 add-first-step-7 : tie.Need-add-first-step-7
 add-first-step-7 c =
-    let p = c .before .before .before .before .before .before .before .before .before .before .before .before .before .before .before .before .pre in
+    let s = c .before .before .before .before .before .before .before .before in
+    let p = s .before .before .before .before .before .before .before .before .pre in
     omega arith
 
 first-step-requires-8 : tie.Need-first-step-requires-8
 first-step-requires-8 c κs =
-    let p = c .before .before .before .before .before .before .before .before .before .before .before .before .before .before .before .before .pre in
+    let s = c .before .before .before .before .before .before .before .before in
+    let p = s .before .before .before .before .before .before .before .before .pre in
     (omega (arith, p .0), p .1)
 
 returns : tie.Need-returns

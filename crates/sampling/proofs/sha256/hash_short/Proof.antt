@@ -5,7 +5,7 @@ use Prim.Native.Nat.{_+_, _/_}
 use native.Mathlib.Omega.{arith}
 use borrow.Author.Needs.{needs}
 use lib.ListN.{length, length-append}
-use Rattle.sampling.specs.Fips180.{H₀, padded}
+use Rattle.sampling.specs.core.Fips180.{H₀, padded}
 use Rattle.sampling.specs.laws.HashLaws.{length-padded, hashed-in-blocks}
 use Rattle.sampling.proofs.MessageEnd.{read-whole}
 use Rattle.sampling.proofs.sha256.hash_short.Statement.{statement}
@@ -33,7 +33,8 @@ returns : tie.Need-returns
 returns c =
     let z = c .before .before .before .before .before .before .before .before .args in
     let m = z .a .now ++ (z .b .now ++ (z .c .now ++ z .d .now)) in
-    let n : length (z .a .now) + length (z .b .now) + length (z .c .now) + length (z .d .now) ≡ length m = simp length-append (omega arith) in
+    let n : length (z .a .now) + length (z .b .now) + length (z .c .now) + length (z .d .now)
+    ≡ length m = simp length-append (omega arith) in
     c .last-blocks .ensures
     ∙ rw (
       c .before .before .before .joined .ensures,

@@ -5,7 +5,7 @@ use Prim.Native.Nat.{_+_}
 use native.Mathlib.Omega.{arith}
 use borrow.Author.Needs.{needs}
 use lib.ListN.{length, length-append}
-use Rattle.sampling.specs.Fips180.{padded}
+use Rattle.sampling.specs.core.Fips180.{padded}
 use Rattle.sampling.proofs.MessageEnd.{four-laid, padding-laid}
 use Rattle.sampling.proofs.sha256.joined.Statement.{statement}
 use Rattle.sampling.proofs.sha256.joined.Tie as tie
@@ -39,7 +39,8 @@ unfolding padded
 returns c =
     let z = c .before .before .before .before .before .before .before .before .before .args in
     let t = z .a .now ++ (z .b .now ++ (z .c .now ++ z .d .now)) in
-    let n : length (z .a .now) + length (z .b .now) + length (z .c .now) + length (z .d .now) ≡ length t = simp length-append (omega arith) in
+    let n : length (z .a .now) + length (z .b .now) + length (z .c .now) + length (z .d .now)
+    ≡ length t = simp length-append (omega arith) in
     c .pad .ensures
     ∙ rw (
       c .before .with-string4 .ensures,

@@ -27,7 +27,8 @@ loop-less : tie.Need-loop-less Inv-loop μ-loop
 loop-less c = search needs
 
 loop-again : tie.Need-loop-again Inv-loop μ-loop
-loop-again c = (search needs, search needs, search needs, λ M h i. c .later-steps .ensures M h (c .before .before .before .loop .inv .3 M h i))
+loop-again c =
+    (search needs, search needs, search needs, λ M h i. c .later-steps .ensures M h (c .before .before .before .loop .inv .3 M h i))
 
 returns : tie.Need-returns Inv-loop μ-loop
 returns c = λ M.

@@ -50,12 +50,14 @@ later-step-requires-7 c κs =
 
 add-later-step-7 : tie.Need-add-later-step-7
 add-later-step-7 c =
-    let p = c .before .before .before .before .before .before .before .before .before .before .before .before .before .before .before .pre in
+    let p = c .before .before .before .before .before .before .before .before .before .before .before .before .before .before .before .pre
+    in
     omega arith
 
 later-step-requires-8 : tie.Need-later-step-requires-8
 later-step-requires-8 c κs =
-    let p = c .before .before .before .before .before .before .before .before .before .before .before .before .before .before .before .pre in
+    let p = c .before .before .before .before .before .before .before .before .before .before .before .before .before .before .before .pre
+    in
     (omega (arith, p .0), omega (arith, p .1))
 
 returns : tie.Need-returns

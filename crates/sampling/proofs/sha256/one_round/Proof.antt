@@ -1,6 +1,6 @@
 -- `one_round`: one round, from what each function of words ensures. The sum T₁ is taken in another order.
 use borrow.Author.Needs.{needs}
-use Rattle.sampling.specs.Fips180.{Ch, Σ₁, round}
+use Rattle.sampling.specs.core.Fips180.{Ch, Σ₁, oneRound}
 use Rattle.sampling.specs.laws.WordLaws.{sum-of-five}
 use Rattle.sampling.proofs.sha256.one_round.Statement.{statement}
 use Rattle.sampling.proofs.sha256.one_round.Tie as tie
@@ -39,7 +39,7 @@ add-requires-7 : tie.Need-add-requires-7
 add-requires-7 c κs = search needs
 
 returns : tie.Need-returns
-unfolding round
+unfolding oneRound
 returns c =
     let a = c .before .before .before .before .before .before .before .before .before .before .before .args in
     let v = a .v in

@@ -1,6 +1,6 @@
 -- `sum`: eight sums, word by word.
 use borrow.Author.Needs.{needs}
-use Rattle.sampling.specs.Fips180.{plus}
+use Rattle.sampling.specs.core.Fips180.{plus}
 use Rattle.sampling.proofs.sha256.sum.Statement.{statement}
 use Rattle.sampling.proofs.sha256.sum.Tie as tie
 

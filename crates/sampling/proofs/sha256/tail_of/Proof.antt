@@ -26,7 +26,8 @@ returns c =
     let t = take (a .args .filled) (a .args .t1) in
     let size : length t ≡ a .args .filled = length-take-le _ _ (omega arith) in
     c .pad .ensures
-    ∙ rw (c .before .with-string .ensures, first-laid t (omega arith)) (padding-laid t (a .args .filled) (a .args .len) (sym size) (omega arith) (omega arith))
+    ∙ rw (c .before .with-string .ensures, first-laid t (omega arith))
+    (padding-laid t (a .args .filled) (a .args .len) (sym size) (omega arith) (omega arith))
 
 pub tail-of-spec : {M : Type 1} → statement M
 tail-of-spec =

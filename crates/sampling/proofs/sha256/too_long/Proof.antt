@@ -1,6 +1,6 @@
 -- `too_long`: a new hasher's state and block.
 use borrow.Author.Needs.{needs}
-use Rattle.sampling.specs.Hasher.{newHasher, tooLong}
+use Rattle.sampling.specs.later.Hasher.{newHasher, tooLong}
 use Rattle.sampling.proofs.sha256.too_long.Statement.{statement}
 use Rattle.sampling.proofs.sha256.too_long.Tie as tie
 

@@ -24,12 +24,17 @@ number-of-requires c κs = search needs
 cast-result : tie.Need-cast-result
 cast-result c =
     let o = c .before .before .before in
-    omega (arith, word-fits (o .args .s .now) (o .args .i) (o .args .i + 4 - o .args .i) (c .number-of .result) (o .pre) (omega arith) (c .number-of .ensures .1))
+    omega (
+      arith,
+      word-fits (o .args .s .now) (o .args .i) (o .args .i + 4 - o .args .i) (c .number-of .result) (o .pre) (omega arith)
+          (c .number-of .ensures .1),
+    )
 
 returns : tie.Need-returns
 returns c =
     let o = c .before .before .before in
-    word-read (o .args .s .now) (o .args .i) (o .args .i + 4 - o .args .i) (c .number-of .result) (o .pre) (omega arith) (c .number-of .ensures .0)
+    word-read (o .args .s .now) (o .args .i) (o .args .i + 4 - o .args .i) (c .number-of .result) (o .pre) (omega arith)
+    (c .number-of .ensures .0)
 
 pub word-at-spec : {M : Type 1} → statement M
 word-at-spec =

@@ -29,7 +29,8 @@ unknown-requires-3 c κs = search needs
 returns-3 : tie.Need-returns-3
 returns-3 c =
     let a = c .before .before .before .before .args in
-    no-digit (a .value) (a .c) _ _ (c .unknown3 .ensures .0) (c .unknown3 .ensures .1) (over (a .value) (a .c) (omega arith) (omega arith) (omega arith))
+    let late = over (a .value) (a .c) (omega arith) (omega arith) (omega arith) in
+    no-digit (a .value) (a .c) _ _ (c .unknown3 .ensures .0) (c .unknown3 .ensures .1) late
 
 mul-tens : tie.Need-mul-tens
 mul-tens c = search needs
@@ -46,7 +47,8 @@ unknown-requires-4 c κs = search needs
 returns-4 : tie.Need-returns-4
 returns-4 c =
     let a = c .before .before .before .before .before .args in
-    no-digit (a .value) (a .c) _ _ (c .unknown4 .ensures .0) (c .unknown4 .ensures .1) (over (a .value) (a .c) (omega arith) (omega arith) (omega arith))
+    let late = over (a .value) (a .c) (omega arith) (omega arith) (omega arith) in
+    no-digit (a .value) (a .c) _ _ (c .unknown4 .ensures .0) (c .unknown4 .ensures .1) late
 
 add-t6 : tie.Need-add-t6
 add-t6 c = search needs

@@ -1,22 +1,25 @@
--- `words::start_of` ends, and stops one past the line at most.
+-- `words::start_of` ends, and finds where the words before it end.
 use Prim.Native.Nat.{_+_, _-_, _≤_}
+use mathlib.Core.Path.{_≡_}
 use native.Mathlib.Omega.{arith}
 use borrow.Author.Needs.{needs}
-use lib.ListN.{length}
+use lib.ListN.{length, drop}
+use Rattle.text.specs.Words.{behindWords}
+use Rattle.text.proofs.WordsRead.{first-is, next-is, none-left, all-passed}
 use Rattle.text.proofs.words.start_of.Statement.{statement}
 use Rattle.text.proofs.words.start_of.Tie as tie
 
 abbrev Inv-loop : tie.InvT-loop
-Inv-loop line n start₀ k₀ start k = (k ≤ n) × (start ≤ length line + 1)
+Inv-loop line n start₀ k₀ start k = (k ≤ n) × (start ≤ length line + 1) × (drop start line ≡ behindWords k line)
 
 abbrev μ-loop : tie.MeasureT-loop
 μ-loop line n start₀ k₀ start k = n - k
 
 loop-holds : tie.Need-loop-holds Inv-loop μ-loop
-loop-holds c = omega arith
+loop-holds c = search (needs, first-is)
 
 returns : tie.Need-returns Inv-loop μ-loop
-returns c = omega arith
+returns c = search (needs, none-left)
 
 next-start-requires : tie.Need-next-start-requires Inv-loop μ-loop
 next-start-requires c κs = search needs
@@ -28,10 +31,10 @@ loop-less : tie.Need-loop-less Inv-loop μ-loop
 loop-less c = omega arith
 
 loop-again : tie.Need-loop-again Inv-loop μ-loop
-loop-again c = omega arith
+loop-again c = search (needs, next-is)
 
 returns-2 : tie.Need-returns-2 Inv-loop μ-loop
-returns-2 c = omega arith
+returns-2 c = search (needs, all-passed)
 
 pub start-of-spec : {M : Type 1} → statement M
 start-of-spec =

@@ -8,10 +8,18 @@ use Rattle.vectors.proofs.answers.run_open.Statement.{statement}
 use Rattle.vectors.proofs.answers.run_open.Tie as tie
 
 abbrev Inv-loop : tie.InvT-loop
-Inv-loop name fd room₀ data₀ ends₀ marks₀ indexes₀ out₀ counts₀ so-far₀ line₀ turn₀ room «data» ends marks indexes out counts so-far line turn = (turn ≤ 65536) × (length room ≡ length room₀) × (length «data» ≡ length data₀) × (length ends ≡ length ends₀) × (length marks ≡ length marks₀) × (length indexes ≡ length indexes₀) × (length out ≡ length out₀) × (length counts ≡ length counts₀)
+Inv-loop _ _ room₀ data₀ ends₀ marks₀ indexes₀ out₀ counts₀ _ _ _ room «data» ends marks indexes out counts _ _ turn =
+    (turn ≤ 65536)
+    × (length room ≡ length room₀)
+    × (length «data» ≡ length data₀)
+    × (length ends ≡ length ends₀)
+    × (length marks ≡ length marks₀)
+    × (length indexes ≡ length indexes₀)
+    × (length out ≡ length out₀)
+    × (length counts ≡ length counts₀)
 
 abbrev μ-loop : tie.MeasureT-loop
-μ-loop name fd room₀ data₀ ends₀ marks₀ indexes₀ out₀ counts₀ so-far₀ line₀ turn₀ room «data» ends marks indexes out counts so-far line turn = 65536 - turn
+μ-loop _ _ _ _ _ _ _ _ _ _ _ _ _ _ _ _ _ _ _ _ _ turn = 65536 - turn
 
 none-yet-requires : tie.Need-none-yet-requires Inv-loop μ-loop
 none-yet-requires c κs = search needs

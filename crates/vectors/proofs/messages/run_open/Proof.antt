@@ -8,7 +8,8 @@ use Rattle.vectors.proofs.messages.run_open.Statement.{statement}
 use Rattle.vectors.proofs.messages.run_open.Tie as tie
 
 abbrev Inv-loop : tie.InvT-loop
-Inv-loop name fd room₀ report₀ line₀ room report line = (report .lines ≤ 1024) × (report .whole ≤ report .lines) × (report .ways ≤ 8 * report .lines) × (length room ≡ length room₀)
+Inv-loop name fd room₀ report₀ line₀ room report line =
+    (report .lines ≤ 1024) × (report .whole ≤ report .lines) × (report .ways ≤ 8 * report .lines) × (length room ≡ length room₀)
 
 abbrev μ-loop : tie.MeasureT-loop
 μ-loop name fd room₀ report₀ line₀ room report line = 1024 - report .lines

@@ -6,7 +6,7 @@ use native.Mathlib.Omega.{arith}
 use borrow.Author.Needs.{needs}
 use lib.ListN.{length, take, length-append}
 use lib.Seq.{length-take-le}
-use Rattle.sampling.specs.Fips180.{padding}
+use Rattle.sampling.specs.core.Fips180.{padding}
 use Rattle.sampling.specs.laws.HashLaws.{padding-size}
 use Rattle.sampling.specs.laws.HasherLaws.{finished-in-blocks, finished-over}
 use Rattle.sampling.proofs.MessageEnd.{read-whole}

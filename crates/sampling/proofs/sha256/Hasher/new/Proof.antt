@@ -1,6 +1,6 @@
 -- `new`: the definition's own values.
 use borrow.Author.Needs.{needs}
-use Rattle.sampling.specs.Hasher.{newHasher}
+use Rattle.sampling.specs.later.Hasher.{newHasher}
 use Rattle.sampling.proofs.sha256.Hasher.new.Statement.{statement}
 use Rattle.sampling.proofs.sha256.Hasher.new.Tie as tie
 
