@@ -9,6 +9,9 @@
  * The telescope's settings, X being ALBA_X_HIGH * 2^64 + ALBA_X_LOW; and what to reserve for a run under them,
  * if no element has more than 32 data bytes: a prover that is lent so much never answers 6, nor the writer
  * of its proof's ticket 42.
+ *
+ * The verifier refuses a proof of the last try, R = ALBA_MAX_RETRIES, with 21. So ask for one try more than you want:
+ * with ALBA_MAX_RETRIES 1 nothing that the prover finds goes green.
  */
 #ifndef ALBA_SETTINGS_H
 #define ALBA_SETTINGS_H

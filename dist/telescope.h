@@ -12,20 +12,20 @@
  * starts from a probability q, a host that makes such a header, has a double: alba_threshold makes X of it.
  *
  * What ALBA_ACCEPTED, green, means: the chain of the proof's elements exists and passes under the settings, which must be the loader's
- * own. And more than f elements stand behind the proof, f being smaller than set_size: whatever someone sends who has at most f, he goes
+ * own. It is a sign of more than f elements, f being smaller than set_size, in this sense: whatever someone sends who has at most f, he goes
  * green under at most one in 2^(s + 1) of all functions in SHA-256's place, where, with the small case's settings for completeness c,
  *
  *     set_size^proof_size * 1442695 >= f^proof_size * 2^(s + 5) * c * 1000000
  *
- * Both are proved, the second by the theorem seldom_green, in which an s above 207 counts as 207. What stays assumed:
+ * Both are proved, the count by the theorem seldom_green, in which an s above 207 counts as 207. What stays assumed:
  * - SHA-256 behaves as a function drawn at random, on the strings that are hashed here.
  * - The elements are fixed before that function is asked, and the f are all that he could send. Who can invent elements, or choose among
  *   many readings of a board, has more: so they must be genuine, and one to a board. With k such lists it is k times as many functions.
  * - Elements count by their Tail, the data with the index behind it. Two that have the same Tail are one.
- * - Completeness, that an honest server finds a proof, is the telescope's paper's.
+ * - Completeness, that an honest server finds a proof, is a claim of the telescope's paper (NOTICE) and not proved here.
  *
  * Set_size 400, proof_size 328 and c = 10, say, have s = 128 against f = 300. `plan security` works proof_size out of s, c, set_size and f;
- * README.md says more of them, and has a table. What green doesn't mean:
+ * docs/GREEN.md says more of them, and has a table. What green doesn't mean:
  * - that elements are distinct: a proof may have one several times, and one that is listed often counts once. The server has to call
  *   check_distinct on its list: two elements are the same when data and mark agree and, where the mark is 1, the index.
  * - that an element is genuine: invented bytes go green, and so do one board's data under many indexes, which are different elements. A
@@ -139,9 +139,9 @@ uint32_t alba_threshold(double q, uint64_t *out, size_t out_len);
  * search_counter  the start within that try
  * data            the data bytes of all elements, one element's after the other's; they may go on behind the last
  * ends            4 bytes for each element, big-endian: where its data stops, counted from the start of data; the first element's
- *                 starts at 0, each other's where the one's before it stops
+ *                 starts at 0, every other element's where the data before it stops
  * marks           a byte for each element: 1 if it has an index, else 0
- * indexes         8 bytes for each element, big-endian: its index; of no account where the mark is 0
+ * indexes         8 bytes for each element, big-endian: its index, ignored where the mark is 0
  *
  * Each ..._len is a count of bytes, so ends_len is 4 times and indexes_len 8 times marks_len.
  *
@@ -150,7 +150,7 @@ uint32_t alba_threshold(double q, uint64_t *out, size_t out_len);
  * ALBA_TOO_LARGE; ALBA_INCORRECT_NUMBER_ELEMENTS; ALBA_INVALID_PARAMETERS; ALBA_INVALID_PROOF. Else ALBA_ACCEPTED.
  * It takes time in proportion to what it is lent. The archive's takes less than 3,000 bytes of stack: 2,532 at most were measured, whatever
  * proof_size is (c/stack.c, with symbols bound before; a first call in which memcpy is still looked up took 4,920). What telescope.c takes on
- * a small machine stands in README.md, at the end of "On another machine".
+ * a small machine stands in docs/C.md, under Its size; how long it takes at worst in SECURITY.md.
  */
 uint32_t alba_verify(uint64_t set_size, uint64_t proof_size, uint64_t max_retries, uint64_t search_width, uint64_t dfs_bound,
                      uint64_t x_high, uint64_t x_low, uint64_t retry_counter, uint64_t search_counter, const uint8_t *data, size_t data_len,

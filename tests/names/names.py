@@ -8,8 +8,8 @@ from tree import TOP, Tree
 
 def wrong(tree: Tree) -> list[tuple[str, int, str]]:
     """What is wrong, by page and line; line 0 where it is in none."""
-    trace, reading, readme = "docs/TRACE.md", "docs/READING.md", "README.md"
-    text = {page: tree.text(page) for page in (trace, reading, readme)}
+    trace, reading, proved, in_c = "docs/TRACE.md", "docs/READING.md", "docs/PROVED.md", "docs/C.md"
+    text = {page: tree.text(page) for page in (trace, reading, proved, in_c)}
     # The files of that section are the documents', which aren't in the repository.
     found = {page: list(pages.wrong_paths(tree, text[page], ("Which text is meant",))) for page in text}
     for page in text:
@@ -21,8 +21,9 @@ def wrong(tree: Tree) -> list[tuple[str, int, str]]:
     found[reading] += numbers.lines_to_believe(tree, text[reading])
     found[reading] += numbers.theorems_said(tree, text[reading])
     found[reading] += numbers.contracts_tried(tree, text[reading])
-    found[readme] += pages.wrong_calls(tree, text[readme], "Call", 2)
-    found[readme] += numbers.said_in_readme(tree, text[readme])
+    found[proved] += pages.wrong_calls(tree, text[proved], "Call", 2)
+    found[proved] += numbers.said_of_proofs(tree, text[proved])
+    found[in_c] += numbers.said_of_translations(tree, text[in_c])
     found["tests/wrong_programs"] = [(0, f"no page names {name}") for name in pages.unnamed_edits(tree, text[trace], text[reading])]
     found["tests/wrong_programs"] += [*pages.wrong_rooms(tree), *numbers.theorems_tried(tree), *numbers.demand_tried(tree)]
     return [(page, *one) for page, of in found.items() for one in sorted(of)]

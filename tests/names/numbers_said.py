@@ -15,6 +15,11 @@ def line_of(text: str, place: int) -> int:
     return text.count("\n", 0, place) + 1
 
 
+def number_said(word: str) -> int:
+    """A number in digits or as a word; -1 where it is none."""
+    return WORDS.index(word.lower()) if word.lower() in WORDS else int(re.sub(r"\D", "", word) or -1)
+
+
 def said_numbers(text: str, form: str, counted: list[int]) -> Iterator[Wrong]:
     """Where the page has this form, its numbers are those counted, in digits or as a word; and it has it."""
     spaced = re.sub(" ", r"\\s+", form.replace("#", r"([\w,]+)"))
@@ -22,7 +27,7 @@ def said_numbers(text: str, form: str, counted: list[int]) -> Iterator[Wrong]:
     if not found:
         yield 0, f"it says nowhere '{form}', which is checked here"
     for one in found:
-        said = [WORDS.index(word) if word in WORDS else int(re.sub(r"\D", "", word) or -1) for word in one.groups()]
+        said = [number_said(word) for word in one.groups()]
         if said != counted:
             yield line_of(text, one.start()), f"'{' '.join(one.group().split())}', and counted are {' and '.join(map(str, counted))}"
 
@@ -71,12 +76,20 @@ def wrong_translations(text: str) -> int:
     return 0
 
 
-def said_in_readme(tree: Tree, readme: str) -> Iterator[Wrong]:
+def said_of_proofs(tree: Tree, proved: str) -> Iterator[Wrong]:
+    """docs/PROVED.md: how many wrong programs there are, how many theorems of crates/soundness; and each theorem is named."""
     in_gate = sum(edit.in_gate for edit in tree.edits.values())
-    yield from said_numbers(readme, "refuse # of the # wrong programs", [in_gate, len(tree.edits)])
-    yield from said_numbers(readme, "# wrong translations, edits of", [wrong_translations(tree.text("translate/wrong_translations"))])
+    yield from said_numbers(proved, "refuse # of the # wrong programs", [in_gate, len(tree.edits)])
     above = re.findall(r"(?m)^pub use theorems::", tree.text("crates/soundness/src/lib.rt"))
-    yield from said_numbers(readme, r"What green means\*\*: # theorems", [len(above)])
+    yield from said_numbers(proved, "# theorems of crates/soundness", [len(above)])
+    for name in tree.theorems:
+        if f"`{name}`" not in proved:
+            yield 0, f"the theorem {name} isn't named"
+
+
+def said_of_translations(tree: Tree, in_c: str) -> Iterator[Wrong]:
+    """docs/C.md: how many wrong translations there are."""
+    yield from said_numbers(in_c, "# wrong translations, edits of", [wrong_translations(tree.text("translate/wrong_translations"))])
 
 
 # ---- which wrong programs the gate tries

@@ -41,10 +41,11 @@ FILES = {
     "tests/wrong_programs/centralized_telescope/demand_3/demand3_two.edit": "file: specs/Demand3.antt\n"
     "old: x ≡ 2\nnew: x ≡ 3\nown: a b\ntheorem: demand_3\n",
     "tests/wrong_programs/soundness/is_green/green_not.edit": "file: specs/Green.antt\nold: ℕ\nnew: ⊥\nown: a b\ntheorem: is_green\n",
-    "README.md": """# Doors
+    "docs/C.md": "# In C\n\nIt has 2 wrong translations, edits of the translator.\n",
+    "docs/PROVED.md": """# Doors
 
-The prover refuses five of what it may, to refuse 5 of the 6 wrong programs. See [the trace](docs/TRACE.md), src/door.rt and target/none.
-**What green means**: one theorems, with 2 wrong translations, edits of the translator.
+The prover refuses five of what it may, to refuse 5 of the 6 wrong programs. See docs/TRACE.md, src/door.rt and target/none.
+One theorems of crates/soundness: `is_green`. Before it `demand_3`.
 
 | Call | What it gives | Definition |
 |---|---|---|
@@ -131,17 +132,17 @@ class Made(unittest.TestCase):
         self.assertEqual(out.getvalue(), "pages: 5 of 6 wrong programs in the gate, 1 calls, 2 theorems; wrong: 0\n")
 
     def test_what_is_wrong_is_said_by_page_and_line(self):
-        self.put("README.md", FILES["README.md"].replace("src/door.rt", "src/gate.rt"))
+        self.put("docs/PROVED.md", FILES["docs/PROVED.md"].replace("src/door.rt", "src/gate.rt"))
         out = io.StringIO()
         with contextlib.redirect_stdout(out):
             self.assertEqual(main(self.top), 1)
-        self.assertIn("README.md:3: there is no src/gate.rt\n", out.getvalue())
+        self.assertIn("docs/PROVED.md:3: there is no src/gate.rt\n", out.getvalue())
         self.assertTrue(out.getvalue().endswith("; wrong: 1\n"))
 
     # ---- paths and names
 
     def test_paths(self):
-        self.assertEqual(self.said("README.md", "(docs/TRACE.md)", "(docs/NONE.md)"), ["README.md: there is no docs/NONE.md"])
+        self.assertEqual(self.said("docs/PROVED.md", "docs/TRACE.md", "docs/NONE.md"), ["docs/PROVED.md: there is no docs/NONE.md"])
         said = ["docs/TRACE.md: there is no crates/sampling/specs/Word.antt"]
         self.assertEqual(self.said("docs/TRACE.md", "specs/Words.antt", "specs/Word.antt"), said)
 
@@ -171,9 +172,9 @@ class Made(unittest.TestCase):
         self.assertEqual(self.said("docs/READING.md", "`opened` (Words)", "`opened` (Green)"), said)
 
     def test_calls(self):
-        said = ["README.md: the public call open has no row in the table of calls", "README.md: `latch(x)` is no public call"]
-        self.assertEqual(self.said("README.md", "`open(x)`", "`latch(x)`"), said)
-        self.assertEqual(self.said("README.md", "`opened`", "`shut`"), ["README.md: `shut` is declared nowhere"])
+        said = ["docs/PROVED.md: the public call open has no row in the table of calls", "docs/PROVED.md: `latch(x)` is no public call"]
+        self.assertEqual(self.said("docs/PROVED.md", "`open(x)`", "`latch(x)`"), said)
+        self.assertEqual(self.said("docs/PROVED.md", "`opened`", "`shut`"), ["docs/PROVED.md: `shut` is declared nowhere"])
 
     # ---- edits
 
@@ -228,13 +229,13 @@ class Made(unittest.TestCase):
     # ---- numbers
 
     def test_the_wrong_programs(self):
-        said = ["README.md: 'refuse 4 of the 6 wrong programs', and counted are 5 and 6"]
-        self.assertEqual(self.said("README.md", "refuse 5", "refuse 4"), said)
+        said = ["docs/PROVED.md: 'refuse 4 of the 6 wrong programs', and counted are 5 and 6"]
+        self.assertEqual(self.said("docs/PROVED.md", "refuse 5", "refuse 4"), said)
 
-    def test_translations_and_theorems_of_readme(self):
-        said = ["README.md: '3 wrong translations, edits of', and counted are 2"]
-        self.assertEqual(self.said("README.md", "2 wrong translations", "3 wrong translations"), said)
-        self.assertEqual(len(self.said("README.md", "one theorems", "two theorems")), 1)
+    def test_translations_and_theorems(self):
+        said = ["docs/C.md: '3 wrong translations, edits of', and counted are 2"]
+        self.assertEqual(self.said("docs/C.md", "2 wrong translations", "3 wrong translations"), said)
+        self.assertEqual(len(self.said("docs/PROVED.md", "One theorems", "Two theorems")), 1)
 
     def test_lines_to_believe(self):
         said = "docs/READING.md: soundness/specs/Green.antt has 2 lines to believe, and not 3"
@@ -254,20 +255,20 @@ class Made(unittest.TestCase):
     # ---- the gate's rule
 
     def test_two_for_each_call(self):
-        self.put("README.md", FILES["README.md"].replace("refuse 5", "refuse 4"))
+        self.put("docs/PROVED.md", FILES["docs/PROVED.md"].replace("refuse 5", "refuse 4"))
         said = self.said("tests/wrong_programs/sampling/door/open_shut.edit", "first: a b\n", "first: a b\ngate: no\n")
         self.assertEqual(said, ["docs/READING.md: of the wrong programs of `open` (open_left ..) the gate tries 1, not two"])
 
     def test_one_for_each_theorem(self):
-        self.put("README.md", FILES["README.md"].replace("refuse 5", "refuse 4"))
+        self.put("docs/PROVED.md", FILES["docs/PROVED.md"].replace("refuse 5", "refuse 4"))
         said = self.said("tests/wrong_programs/soundness/is_green/green_not.edit", "own: a b\n", "own: a b\ngate: no\n")
         self.assertEqual(said, ["tests/wrong_programs: the gate tries no wrong program that breaks the theorem is_green"])
 
     def test_one_for_each_part_of_demand_3(self):
-        self.put("README.md", FILES["README.md"].replace("refuse 5", "refuse 4"))
+        self.put("docs/PROVED.md", FILES["docs/PROVED.md"].replace("refuse 5", "refuse 4"))
         said = self.said("tests/wrong_programs/centralized_telescope/demand_3/demand3_two.edit", "own: a b\n", "own: a b\ngate: no\n")
         self.assertEqual(said, ["tests/wrong_programs: the gate tries no wrong claim on line 3 of demand 3, Demand3 two"])
-        self.put("README.md", FILES["README.md"].replace("5 of the 6", "4 of the 5"))
+        self.put("docs/PROVED.md", FILES["docs/PROVED.md"].replace("5 of the 6", "4 of the 5"))
         (self.top / "tests/wrong_programs/centralized_telescope/demand_3/demand3_two.edit").unlink()
         self.assertEqual(self.said(), ["tests/wrong_programs: Demand3 two of demand 3 has no wrong claim"])
 

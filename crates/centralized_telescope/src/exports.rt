@@ -56,7 +56,7 @@ fn index_at(indexes: &[u8], place: usize) -> u64
     number(indexes, 8 * place, 8)
 }
 
-// Both tests, so that neither keeps the other from being made.
+// Whether one of two tests says yes. Both were made before the call, whatever the first one said.
 fn either(a: bool, b: bool) -> bool
     ensures { λ r. ⌜ r ≡ (a || b) ⌝ }
 {

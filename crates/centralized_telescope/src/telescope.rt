@@ -78,7 +78,7 @@ pub fn check_run(
 
 // Searches the list for a proof, in lent places and a lent bin table: the first line of the table that it meets, or how the search ended.
 // set_size is the size that the prover's set is taken to have. What a proof shows is a smaller bound, up to a chance that the settings give
-// (README.md, What green means). Equal elements aren't looked for: `check_distinct` does that.
+// (docs/GREEN.md). Equal elements aren't looked for: `check_distinct` does that.
 pub fn prove(
     p: Params,
     data: &[u8],

@@ -69,7 +69,11 @@ fn say_comment(f: Figures, longest: u64, last: usize) {
     say(b" * if no element has more than ");
     say_number(longest);
     say(b" data bytes: a prover that is lent so much never answers 6, nor the writer\n");
-    say(b" * of its proof's ticket 42.\n */\n");
+    say(b" * of its proof's ticket 42.\n *\n");
+    say(
+        b" * The verifier refuses a proof of the last try, R = ALBA_MAX_RETRIES, with 21. So ask for one try more than you want:\n",
+    );
+    say(b" * with ALBA_MAX_RETRIES 1 nothing that the prover finds goes green.\n */\n");
 }
 
 fn say_definition(name: &[u8], n: u64) {

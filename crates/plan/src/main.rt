@@ -8,8 +8,9 @@
 // size is then that of `proof_size`, and the other settings are its small case's. The second takes the small case's settings for proofs of
 // U elements and completeness C, the third each setting by itself. LONGEST is the most data bytes that an element will have. With U, C is a
 // whole number, or 0x and the 16 hexadecimal digits of a double's bits; X has 32 hexadecimal digits. The header is printed once every
-// argument is read and nothing is refused. Of a wrong argument a line says which it is, and its limits, and where no proof size is enough
-// for the figures a line says that: no compiler takes either for a header. With another number of arguments it says how it is called.
+// argument is read and nothing is refused. If an argument is wrong, one line says which argument it is and what its limits are. If no
+// proof size is enough for the figures, one line says that. No compiler takes either line for a header. With another number of arguments
+// it says how it is called.
 mod header;
 
 use arguments::Asked;

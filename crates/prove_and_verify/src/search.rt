@@ -116,14 +116,11 @@ fn say_task(p: Params, elements: &[u8], n: usize) {
     say(b"\n");
 }
 
-// Reads the file of elements, searches, and writes the proof's file. That one must be new: nothing is written over, the elements least of
-// all, whatever path or link leads there. It is asked before the search, which may be long.
+// Reads the file of elements, searches, and writes the proof's file. The proof's file must be new: no file is overwritten, and
+// above all not the elements', whatever path or link leads there. It is asked before the search, which may be long.
 pub fn run(p: Params, elements: &[u8], proof: &[u8]) {
     if is_there(proof) {
-        say_of_file(
-            proof,
-            b"is there already, and a proof is written over nothing",
-        );
+        say_of_file(proof, b"is there already; a proof never overwrites a file");
         return;
     }
     let mut data = proof_files::data_room();

@@ -68,12 +68,12 @@ fn write_list(
     }
 }
 
-// Reads the proof's file and writes the ticket's. That one must be new: nothing is written over.
+// Reads the proof's file and writes the ticket's. The ticket's file must be new: no file is overwritten.
 pub fn write(proof: &[u8], ticket: &[u8]) {
     if is_there(ticket) {
         say_of_file(
             ticket,
-            b"is there already, and a ticket is written over nothing",
+            b"is there already; a ticket never overwrites a file",
         );
         return;
     }
@@ -146,10 +146,7 @@ fn read_blocks(name: &[u8], ticket: &[u8]) {
 // Reads the ticket's file and writes the proof's, likewise.
 pub fn read(ticket: &[u8], proof: &[u8]) {
     if is_there(proof) {
-        say_of_file(
-            proof,
-            b"is there already, and a proof is written over nothing",
-        );
+        say_of_file(proof, b"is there already; a proof never overwrites a file");
         return;
     }
     let mut room = ticket_room();
