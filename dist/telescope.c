@@ -82,16 +82,6 @@ struct sampling_sample_Threshold {
     } u;
 };
 
-/* centralized_telescope::params::Params */
-struct centralized_telescope_params_Params {
-    uint64_t f0;
-    uint64_t f1;
-    uint64_t f2;
-    uint64_t f3;
-    uint64_t f4;
-    struct sampling_sample_U128 f5;
-};
-
 /* centralized_telescope::round::RetryCounter */
 struct centralized_telescope_round_RetryCounter {
     uint64_t f0;
@@ -115,6 +105,16 @@ struct centralized_telescope_proof_Verdict {
             struct centralized_telescope_errors_Refusal f0;
         } v4;
     } u;
+};
+
+/* centralized_telescope::params::Params */
+struct centralized_telescope_params_Params {
+    uint64_t f0;
+    uint64_t f1;
+    uint64_t f2;
+    uint64_t f3;
+    uint64_t f4;
+    struct sampling_sample_U128 f5;
 };
 
 /* centralized_telescope::params::Checked */
@@ -143,12 +143,6 @@ struct centralized_telescope_exports_EndsFound {
     uint8_t f1;
 };
 
-/* centralized_telescope::types::Index */
-struct centralized_telescope_types_Index {
-    uint8_t f0;
-    uint64_t f1;
-};
-
 struct array_32_uint8_t {
     uint8_t a[32];
 };
@@ -167,6 +161,12 @@ struct centralized_telescope_round_Id {
 struct centralized_telescope_round_Round {
     struct array_32_uint8_t f0;
     struct centralized_telescope_round_Id f1;
+};
+
+/* centralized_telescope::types::Index */
+struct centralized_telescope_types_Index {
+    uint8_t f0;
+    uint64_t f1;
 };
 
 struct array_20_uint8_t {
@@ -653,6 +653,16 @@ uint32_t alba_sample_bernoulli(const uint8_t *a1, size_t a1_len, uint64_t l2, ui
         return l0;
     }
     l0 = UINT32_C(0);
+    return l0;
+}
+
+/* centralized_telescope::params::settings_of */
+static struct centralized_telescope_params_Params centralized_telescope_params_settings_of(uint64_t l1, uint64_t l2,
+    uint64_t l3, uint64_t l4, uint64_t l5, uint64_t l6, uint64_t l7) {
+    struct centralized_telescope_params_Params l0;
+    struct sampling_sample_U128 l8;
+    l8 = (struct sampling_sample_U128){.f0 = l6, .f1 = l7};
+    l0 = (struct centralized_telescope_params_Params){.f0 = l1, .f1 = l2, .f2 = l3, .f3 = l4, .f4 = l5, .f5 = l8};
     return l0;
 }
 
@@ -2277,11 +2287,24 @@ static uint8_t centralized_telescope_proof_is_nowhere(struct centralized_telesco
 }
 
 /* centralized_telescope::exports::index_at */
-static uint64_t centralized_telescope_exports_index_at(struct slice l1, uint64_t l2) {
-    uint64_t l0;
-    uint64_t l3;
-    l3 = (uint64_t)(UINT64_C(8) * l2);
-    l0 = centralized_telescope_numbers_number(l1, l3, UINT64_C(8));
+static struct centralized_telescope_types_Index centralized_telescope_exports_index_at(struct slice l1,
+    struct slice l2, uint64_t l3) {
+    struct centralized_telescope_types_Index l0;
+    unsigned char *l4;
+    uint8_t l5;
+    uint8_t l6;
+    uint64_t l7;
+    uint64_t l8;
+    l4 = l1.f0 + (size_t)l3;
+    l5 = (*(uint8_t *)l4);
+    l6 = (uint8_t)(l5 != UINT8_C(1));
+    if (l6) {
+        l0 = (struct centralized_telescope_types_Index){.f0 = UINT8_C(0), .f1 = UINT64_C(0)};
+        return l0;
+    }
+    l8 = (uint64_t)(UINT64_C(8) * l3);
+    l7 = centralized_telescope_numbers_number(l2, l8, UINT64_C(8));
+    l0 = (struct centralized_telescope_types_Index){.f0 = UINT8_C(1), .f1 = l7};
     return l0;
 }
 
@@ -2500,41 +2523,35 @@ static uint8_t centralized_telescope_exports_chain_passes_in_bytes(struct centra
     uint64_t l10;
     uint64_t l11;
     struct slice l12;
-    struct centralized_telescope_types_Index l13;
-    uint64_t l14;
+    uint64_t l13;
+    uint8_t l14;
     uint8_t l15;
-    uint8_t l16;
-    uint32_t l17;
+    uint32_t l16;
+    unsigned char *l17;
     unsigned char *l18;
-    unsigned char *l19;
-    unsigned char *l20;
-    uint8_t l21;
-    uint64_t l22;
+    struct centralized_telescope_types_Index l19;
     l8 = centralized_telescope_proof_first_round(l1, l2, l3);
     l9 = UINT64_C(0);
     l10 = UINT64_C(0);
     for (;;) {
-        l14 = l6.f1;
-        l15 = (uint8_t)(l10 < l14);
-        if (!l15) {
+        l13 = l6.f1;
+        l14 = (uint8_t)(l10 < l13);
+        if (!l14) {
             goto done_1;
         }
-        l16 = centralized_telescope_proof_is_nowhere(l8);
-        if (l16) {
+        l15 = centralized_telescope_proof_is_nowhere(l8);
+        if (l15) {
             l0 = 0;
             return l0;
         }
-        l17 = centralized_telescope_exports_end_at(l5, l10);
-        l11 = centralized_telescope_numbers_wide(l17);
-        l18 = l4.f0 + (size_t)l9;
-        l14 = (uint64_t)(l11 - l9);
-        l19 = l18;
-        l12 = (struct slice){.f0 = l19, .f1 = l14};
-        l20 = l6.f0 + (size_t)l10;
-        l21 = (*(uint8_t *)l20);
-        l22 = centralized_telescope_exports_index_at(l7, l10);
-        l13 = (struct centralized_telescope_types_Index){.f0 = l21, .f1 = l22};
-        l8 = centralized_telescope_proof_next_round(l1, l2, l8, l12, l13);
+        l16 = centralized_telescope_exports_end_at(l5, l10);
+        l11 = centralized_telescope_numbers_wide(l16);
+        l17 = l4.f0 + (size_t)l9;
+        l13 = (uint64_t)(l11 - l9);
+        l18 = l17;
+        l12 = (struct slice){.f0 = l18, .f1 = l13};
+        l19 = centralized_telescope_exports_index_at(l6, l7, l10);
+        l8 = centralized_telescope_proof_next_round(l1, l2, l8, l12, l19);
         l9 = l11;
         l10 = (uint64_t)(l10 + UINT64_C(1));
     }
@@ -2641,17 +2658,15 @@ uint32_t alba_verify(uint64_t l1, uint64_t l2, uint64_t l3, uint64_t l4, uint64_
     struct slice l12 = lent(a12, a12_len);
     struct slice l13 = lent(a13, a13_len);
     uint32_t l0;
-    struct centralized_telescope_params_Params l14;
-    struct sampling_sample_U128 l15;
-    struct centralized_telescope_proof_Verdict l16;
-    struct centralized_telescope_round_RetryCounter l17;
-    struct centralized_telescope_round_SearchCounter l18;
-    l15 = (struct sampling_sample_U128){.f0 = l6, .f1 = l7};
-    l14 = (struct centralized_telescope_params_Params){.f0 = l1, .f1 = l2, .f2 = l3, .f3 = l4, .f4 = l5, .f5 = l15};
-    l17 = (struct centralized_telescope_round_RetryCounter){.f0 = l8};
-    l18 = (struct centralized_telescope_round_SearchCounter){.f0 = l9};
-    l16 = centralized_telescope_exports_verify_bytes(l14, l17, l18, l10, l11, l12, l13);
-    l0 = centralized_telescope_proof_verdict_number(l16);
+    struct centralized_telescope_proof_Verdict l14;
+    struct centralized_telescope_params_Params l15;
+    struct centralized_telescope_round_RetryCounter l16;
+    struct centralized_telescope_round_SearchCounter l17;
+    l15 = centralized_telescope_params_settings_of(l1, l2, l3, l4, l5, l6, l7);
+    l16 = (struct centralized_telescope_round_RetryCounter){.f0 = l8};
+    l17 = (struct centralized_telescope_round_SearchCounter){.f0 = l9};
+    l14 = centralized_telescope_exports_verify_bytes(l15, l16, l17, l10, l11, l12, l13);
+    l0 = centralized_telescope_proof_verdict_number(l14);
     return l0;
 }
 

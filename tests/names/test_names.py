@@ -3,12 +3,12 @@
 import contextlib
 import io
 import sys
-import tempfile
 import unittest
 from pathlib import Path
 
 sys.dont_write_bytecode = True
-sys.path.insert(0, str(Path(__file__).resolve().parent))
+sys.path[:0] = [str(Path(__file__).resolve().parent), str(Path(__file__).resolve().parent.parent)]
+from made_tree import MadeTree  # noqa: E402
 from names import main, wrong  # noqa: E402
 from numbers_said import said_numbers  # noqa: E402
 from pages import named, said_edits  # noqa: E402
@@ -102,23 +102,13 @@ src/theorems.rt. Of the one functions of crates/centralized_telescope/src/theore
 }
 
 
-class Made(unittest.TestCase):
-    def setUp(self):
-        folder = tempfile.TemporaryDirectory()
-        self.addCleanup(folder.cleanup)
-        self.top = Path(folder.name)
-        for path, text in FILES.items():
-            self.put(path, text)
-
-    def put(self, path, text):
-        (self.top / path).parent.mkdir(parents=True, exist_ok=True)
-        (self.top / path).write_text(text, encoding="utf-8")
+class Made(MadeTree):
+    FILES = FILES
 
     def said(self, path=None, old="", new=""):
         """What is wrong while `old` is `new` in the file."""
         if path:
-            self.assertIn(old, FILES[path])
-            self.put(path, FILES[path].replace(old, new, 1))
+            self.exchange(path, old, new)
         found = [f"{page}: {what}" for page, _, what in wrong(Tree(self.top))]
         if path:
             self.put(path, FILES[path])

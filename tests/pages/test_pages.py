@@ -2,14 +2,14 @@
 """The checks of tests/pages/run over a small made-up tree, which is right as it stands: a test makes one thing wrong and sees it said."""
 import hashlib
 import sys
-import tempfile
 import unittest
 from pathlib import Path
 
 sys.dont_write_bytecode = True
-sys.path.insert(0, str(Path(__file__).resolve().parent))
+sys.path[:0] = [str(Path(__file__).resolve().parent), str(Path(__file__).resolve().parent.parent)]
 import markdown  # noqa: E402
 from checks import TOP, bytes_of_dump, bytes_of_table, in_runs, in_words, wrong_example  # noqa: E402
+from made_tree import MadeTree  # noqa: E402
 
 PAGE = """# Doors
 
@@ -56,22 +56,12 @@ def block_of(body: bytes) -> bytes:
     return filled + hashlib.sha256(filled).digest()[:8]
 
 
-class Made(unittest.TestCase):
-    def setUp(self):
-        folder = tempfile.TemporaryDirectory()
-        self.addCleanup(folder.cleanup)
-        self.top = Path(folder.name)
-        for path, text in FILES.items():
-            self.put(path, text)
-
-    def put(self, path, text):
-        (self.top / path).parent.mkdir(parents=True, exist_ok=True)
-        (self.top / path).write_text(text, encoding="utf-8")
+class Made(MadeTree):
+    FILES = FILES
 
     def said(self, check, path="README.md", old="", new=""):
         """What is wrong while `old` is `new` in the file."""
-        self.assertIn(old, FILES[path])
-        self.put(path, FILES[path].replace(old, new, 1))
+        self.exchange(path, old, new)
         return [f"{page}:{line}: {what}" for page, line, what in check(self.top)[0]]
 
     def test_as_it_stands(self):

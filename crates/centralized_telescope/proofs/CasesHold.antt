@@ -7,25 +7,27 @@ use Prim.Native.Nat.{ℕ, _*_, min}
 use native.Mathlib.Omega.{arith}
 use lib.Dec.{leb}
 use lib.Ieee.{Float, isNan, lt, ofInt, round, add, mul, div}
-use lib.ListN.{length, take, length-take}
+use lib.ListN.{length, take, length-take, length-replicate}
 use Rattle.sampling.specs.core.BigEndian.{bigEndian}
+use Rattle.sampling.specs.core.FirstNumber.{firstNumber}
 use Rattle.sampling.specs.core.Sample.{isPower, modNotPower, uniform, bernoulli}
 use Rattle.sampling.specs.later.Threshold.{outside, threshold, converted}
 use Rattle.sampling.specs.laws.SampleLaws.{drawn-of-one}
 use Rattle.centralized_telescope.specs.declared.params.Params.{Params}
-use Rattle.centralized_telescope.specs.core.Params.{notOneTo}
+use Rattle.centralized_telescope.specs.core.Params.{notOneTo, checked}
 use Rattle.centralized_telescope.specs.later.SmallCase.{asDouble, L, floor, ceil, beforeCeil, searchWidth, beforeFloor, dfsBound}
 use Rattle.centralized_telescope.specs.later.SmallCase.{proofSizeOut, completenessOut, smallCase, smallSettings}
 use Rattle.centralized_telescope.specs.laws.SmallCaseLaws.{settings-given}
-use Rattle.centralized_telescope.specs.core.Elements.{Element, elements}
+use Rattle.centralized_telescope.specs.laws.ParamsLaws.{within-limits, none-refused}
+use Rattle.centralized_telescope.specs.core.Elements.{Element, elements, endWrong, malformed, dataLong, tooLarge, listCheck}
 use Rattle.centralized_telescope.specs.laws.ElementsLaws.{length-elements}
-use Rattle.centralized_telescope.specs.core.Lists.{Each}
+use Rattle.centralized_telescope.specs.core.Lists.{Each, someOf}
 use Rattle.centralized_telescope.specs.core.Chains.{Chain, tryOf}
 use Rattle.centralized_telescope.specs.core.Rounds.{saysYes}
 use Rattle.centralized_telescope.specs.core.Prover.{bySearch, answered}
 use Rattle.centralized_telescope.specs.core.Search.{tryFinds, searched}
 use Rattle.centralized_telescope.specs.laws.OneBinLaws.{treeSize, count-whole, none-found, tries-find-none, tries-count, never-yes}
-use Rattle.centralized_telescope.specs.later.AllCases.{Holds, caseSettings, RunGives, cases, AllCases}
+use Rattle.centralized_telescope.specs.later.AllCases.{Holds, caseSettings, RunGives, cases, AllCases, casesServed}
 use Rattle.centralized_telescope.proofs.ProveAnswers.{served-so}
 
 -- ---- h
@@ -112,3 +114,15 @@ all-cases =
     & (λ u w. run-ends u w 0 0 1 11 0 (omega arith) refl)
     & (λ u w. run-ends u w 0 1 1 12 0 (omega arith) refl)
     & tt
+
+-- ---- such runs are served
+
+pub cases-served : casesServed
+unfolding listCheck malformed someOf endWrong tooLarge dataLong firstNumber notOneTo
+cases-served size width retries bound L =
+    let p = caseSettings size width retries bound in
+    let s : checked p ≡ 0 = none-refused p refl (within-limits p L) in
+    let places = length-replicate {A = ℕ} size 0 in (
+      record { settings = s; list = refl; at-least = omega arith; places-enough = omega arith; table-enough = omega arith },
+      record { settings = s; list = refl; at-least = omega arith; places-enough = omega arith; table-enough = omega arith },
+    )

@@ -1,6 +1,6 @@
 -- The exported verdict by its tests, in the table's order: e and k are the bytes of ends and indexes.
-use mathlib.Core.Path.{_≡_, refl, sym, _∙_}
-use mathlib.Core.Bool.{false, not, _&&_}
+use mathlib.Core.Path.{_≡_, sym, _∙_}
+use mathlib.Core.Bool.{false}
 use mathlib.Core.List.{List, [], _∷_}
 use Prim.Native.Nat.{ℕ, _+_, _-_, _/_, _%_, _≤_, _<_}
 use native.Mathlib.Numerals.{add-one}
@@ -14,15 +14,15 @@ use Rattle.centralized_telescope.specs.core.Refusals.{refusalNumber}
 use Rattle.centralized_telescope.specs.laws.RefusalsLaws.{refusal-number}
 use Rattle.centralized_telescope.specs.core.Elements.{elements, elementAt, endWrong, listCheck, lentOf, maxDataBytes}
 use Rattle.centralized_telescope.specs.laws.ElementsLaws.{length-elements, same-marks, same-indexes, ends-right, start-before-end}
-use Rattle.centralized_telescope.specs.laws.ElementsLaws.{end-within, own-short, lent-there}
-use Rattle.centralized_telescope.specs.inner.ListReading.{startAt, dataAt, elementOf}
+use Rattle.centralized_telescope.specs.laws.ElementsLaws.{end-within, own-short, read-there}
+use Rattle.centralized_telescope.specs.later.Words.{markOf, numberOf}
+use Rattle.centralized_telescope.specs.inner.ListReading.{startAt, dataAt, indexAt, elementOf}
 use Rattle.sampling.specs.core.FirstNumber.{line}
 use Rattle.sampling.specs.laws.FirstNumberLaws.{number-met, second-met, two-passed, number-last}
 use Rattle.centralized_telescope.specs.core.Params.{checked}
 use Rattle.centralized_telescope.specs.core.Verifier.{verdict}
-use Rattle.centralized_telescope.specs.core.Exports.{numbersOf, numbered, isWholeCount, exportedVerdict}
+use Rattle.centralized_telescope.specs.core.Exports.{numbersOf, numbered, leftOver, exportedVerdict}
 use Rattle.centralized_telescope.proofs.NumbersRead.{length-numbersIn}
-use Rattle.centralized_telescope.proofs.VerdictAnswers.{settings-refused}
 
 -- of an accepted list, ends and indexes have as many numbers as there are marks
 module _ (d e m k : List ℕ) (A : listCheck (numbered (lentOf d e m k)) ≡ 0) where
@@ -64,9 +64,10 @@ module _ (d e m k : List ℕ) (A : listCheck (numbered (lentOf d e m k)) ≡ 0) 
       pub own-few : length own ≤ maxDataBytes
       own-few = own-short (numbered (lentOf d e m k)) A i inside own own-read
 
-      pub element-read : (v : ℕ) → v ≡ getD (numbersOf 8 k) i 0
-          → elementOf own (getD m i 0) v ≡ elementAt (elements (numbered (lentOf d e m k))) i
-      element-read v w = lent-there (numbered (lentOf d e m k)) A i inside own (getD m i 0) v own-read refl w
+      pub element-read : (mark v : ℕ)
+          → (mark ≡ markOf (indexAt m (numbersOf 8 k) i)) × (v ≡ numberOf (indexAt m (numbersOf 8 k) i))
+          → elementOf own mark v ≡ elementAt (elements (numbered (lentOf d e m k))) i
+      element-read mark v w = read-there (numbered (lentOf d e m k)) A i inside own mark v own-read w
 
       pub next-start : end ≡ startAt (numbersOf 4 e) (i + 1)
       unfolding startAt
@@ -74,20 +75,20 @@ module _ (d e m k : List ℕ) (A : listCheck (numbered (lentOf d e m k)) ≡ 0) 
 
 module _ (p : Params) (R S : ℕ) (d e m k : List ℕ) where
   -- the second line, and the verdict behind it
-  abbrev leftOver : ℕ
-  leftOver = line 4 (not (isWholeCount 4 e && isWholeCount 8 k))
+  abbrev bytesLine : ℕ
+  bytesLine = line 4 (leftOver (lentOf d e m k))
 
   abbrev whole : ℕ
   whole = verdict p R S (numbered (lentOf d e m k))
 
   pub bytes-settings-refused : (r : Refusal) → checked p ≡ refusalNumber r → refusalNumber r ≡ exportedVerdict p R S (lentOf d e m k)
   unfolding exportedVerdict
-  bytes-settings-refused r c = sym (number-met (checked p) (leftOver ∷ whole ∷ []) (refusalNumber r) c (refusal-number r))
+  bytes-settings-refused r c = sym (number-met (checked p) (bytesLine ∷ whole ∷ []) (refusalNumber r) c (refusal-number r))
 
   module _ (P : checked p ≡ 0) where
-    malformed : leftOver ≡ 4 → 4 ≡ exportedVerdict p R S (lentOf d e m k)
+    malformed : bytesLine ≡ 4 → 4 ≡ exportedVerdict p R S (lentOf d e m k)
     unfolding exportedVerdict
-    malformed o = sym (second-met (checked p) leftOver (whole ∷ []) 4 P o (refusal-number refusal.Malformed))
+    malformed o = sym (second-met (checked p) bytesLine (whole ∷ []) 4 P o (refusal-number refusal.Malformed))
 
     pub ends-not-whole : (length e % 4 ≡ 0 → ⊥) → 4 ≡ exportedVerdict p R S (lentOf d e m k)
     ends-not-whole n = malformed (rw (ne-eqb (length e % 4) 0 n))
@@ -98,4 +99,5 @@ module _ (p : Params) (R S : ℕ) (d e m k : List ℕ) where
     pub whole-counts : length e % 4 ≡ 0 → length k % 8 ≡ 0 → whole ≡ exportedVerdict p R S (lentOf d e m k)
     unfolding exportedVerdict
     whole-counts E K =
-        sym (two-passed (checked p) leftOver (whole ∷ []) P (rw (eq-eqb (length e % 4) 0 E, eq-eqb (length k % 8) 0 K)) ∙ number-last whole)
+        let none-left : bytesLine ≡ 0 = rw (eq-eqb (length e % 4) 0 E, eq-eqb (length k % 8) 0 K) in
+        sym (two-passed (checked p) bytesLine (whole ∷ []) P none-left ∙ number-last whole)

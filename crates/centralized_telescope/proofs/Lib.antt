@@ -10,6 +10,8 @@ mod ListAnswers
 mod TryFinds
 mod Tries
 mod VerifierDemand
+mod VerdictHolds
+mod FoundHolds
 mod ProverDemand
 mod DemandHolds
 mod CasesHold

@@ -24,18 +24,19 @@ use Rattle.centralized_telescope.specs.core.Search.{searched}
 use Rattle.centralized_telescope.specs.core.Prover.{Proved, refused, answered, bySearch, proverRefusal, proved, roomRefusals}
 use Rattle.centralized_telescope.specs.later.ProofList.{joinedData, placeOut, buffersShort, ProofList, listOver, writeRefusal}
 use Rattle.centralized_telescope.specs.later.ProofList.{proofList}
-use Rattle.centralized_telescope.specs.later.ProofList.{frontOf}
 use Rattle.centralized_telescope.specs.later.Blocks.{blockCount, blockBytes}
 use Rattle.centralized_telescope.specs.later.ElementBytes.{elementBytes, elementsBytes, maxHeadBytes}
-use Rattle.centralized_telescope.specs.later.Tickets.{content, ticketWriteRefusal, ticketWritten, ticketHeadBytes}
-use Rattle.centralized_telescope.specs.core.Demand3.{Served}
+use Rattle.centralized_telescope.specs.later.Tickets.{content, ticket, TicketWritten, ticketWriteRefusal, ticketWritten}
+use Rattle.centralized_telescope.specs.later.Tickets.{ticketHeadBytes}
+use Rattle.centralized_telescope.specs.core.Demand3.{Served, Listed}
 use Rattle.centralized_telescope.specs.later.Plan.{amounts, planRefusal, planned}
-use Rattle.centralized_telescope.specs.later.PlanClaims.{planSuffices, planNeeded, stepsNotPassed, ticketFits, tightExample}
+use Rattle.centralized_telescope.specs.later.PlanClaims.{planSuffices, planNeeded, stepsNotPassed, ticketFits, ticketBounded}
+use Rattle.centralized_telescope.specs.later.PlanClaims.{tightExample}
 use Rattle.centralized_telescope.specs.laws.TestLaws.{lt-or-le}
 use Rattle.centralized_telescope.specs.laws.ListsLaws.{each-nil, each-cons, each-head, each-rest}
 use Rattle.centralized_telescope.specs.laws.ParamsLaws.{lawful}
 use Rattle.centralized_telescope.specs.laws.ElementsLaws.{check-range, length-elements}
-use Rattle.centralized_telescope.specs.laws.ProofListLaws.{written-accepted, written-elements}
+use Rattle.centralized_telescope.specs.laws.BlocksLaws.{length-blocks}
 use Rattle.centralized_telescope.specs.laws.PlanLaws.{Given, given, content-most, content-exact}
 use Rattle.centralized_telescope.proofs.Tries.{search-steps}
 use Rattle.centralized_telescope.proofs.ProveAnswers.{list-number-met, room-decides, places-met, table-met, few-met, refused-by}
@@ -43,6 +44,7 @@ use Rattle.centralized_telescope.proofs.ProveAnswers.{served-so, found-
 use Rattle.centralized_telescope.proofs.ProofAnswers.{last-met}
 use Rattle.centralized_telescope.proofs.TicketAnswers.{room-met}
 use Rattle.centralized_telescope.proofs.DemandHolds.{demand-3}
+use Rattle.centralized_telescope.proofs.TicketsHold.{blocks-counted}
 
 -- ---- the planned amounts, one by one
 
@@ -190,6 +192,10 @@ module _ (R S : ℕ) (lent : Lent) (out : List ℕ) (A : listCheck lent ≡ 0) w
       rw (eq-eqb (ticketWriteRefusal R S lent out) 0
       (room-met R S lent out A size refl false (le-ltb (length out) (blockBytes * blockCount size) room))) (refl, refl)
 
+  ticket-unmade : length out < blockBytes * blockCount size → ticketWritten R S lent out .count ≡ 0
+  unfolding ticketWritten
+  ticket-unmade short = rw (room-met R S lent out A size refl true (lt-ltb (length out) (blockBytes * blockCount size) short))
+
 module _ (p : Params) (lent : Lent) (places table : List ℕ) (n : proved p lent places table .number ≡ 0) where
   open Lent lent using (ends)
 
@@ -252,7 +258,7 @@ module _ (p : Params) (lent : Lent) (places table : List ℕ) (n : proved p lent
     elements-count : length (map (elementAt all) own) ≡ p .«proof_size»
     elements-count = length-map own (elementAt all) ∙ own-length
 
-    module _ (buffers : Lent) (out : List ℕ) where
+    module _ (buffers : Lent) where
       open Lent buffers using (bytes as bytes′, ends as ends′, marks as marks′, indexes as indexes′)
 
       abbrev w : ProofList
@@ -275,56 +281,51 @@ module _ (p : Params) (lent : Lent) (places table : List ℕ) (n : proved p lent
             le-ltb (length indexes′) (length own) (omega (arith, own-length)),
             le-ltb (length bytes′) (length (joinedData (map (elementAt all) own))) (omega arith),
           ) in
-          let none-met = last-met own lent buffers (run .list) (omega arith) (none-out own own-places) false room in
+          let none-met = last-met own lent buffers (run .list) (none-out own own-places) (omega arith) false room in
           rw (eq-eqb (writeRefusal own lent buffers) 0 none-met)
 
-      module _ (W : w .number ≡ 0) (room : blockBytes * a .«ticket_blocks» ≤ length out) where
-        -- the list handed on
-        abbrev sent : Lent
-        sent = frontOf (w .len) (p .«proof_size») (w .buffers)
+    -- the ticket of a list with these elements
+    module _ (l : Listed (map (elementAt all) own)) (out : List ℕ) where
+      abbrev held : ℕ
+      held = length (content (r .retry) (r .search) (elements (l .lent)))
 
-        accepted-parts : listCheck sent ≡ 0
-        accepted-parts =
-            subst (λ (k : ℕ). listCheck (frontOf (w .len) k (w .buffers)) ≡ 0) own-length (written-accepted own lent buffers W)
+      held-is : held ≡ length (content (r .retry) (r .search) (map (elementAt all) own))
+      held-is = ap (λ (es : List Element). length (content (r .retry) (r .search) es)) (l .same)
 
-        same-elements : elements sent ≡ map (elementAt all) own
-        same-elements =
-            subst (λ (k : ℕ). elements (frontOf (w .len) k (w .buffers)) ≡ map (elementAt all) own) own-length
-            (written-elements own lent buffers W)
+      held-most : held ≤ ticketHeadBytes + p .«proof_size» * (maxHeadBytes + longest)
+      held-most =
+          rw held-is
+          (subst
+          (λ (k : ℕ). length (content (r .retry) (r .search) (map (elementAt all) own)) ≤ ticketHeadBytes + k * (maxHeadBytes + longest))
+          elements-count (content-most longest (r .retry) (r .search) (map (elementAt all) own) own-short))
 
-        abbrev held : ℕ
-        held = length (content (r .retry) (r .search) (elements sent))
+      blocks-most : blockCount held ≤ a .«ticket_blocks»
+      blocks-most =
+          rw (blocks-are p longest a G) (blocks-rise held (ticketHeadBytes + p .«proof_size» * (maxHeadBytes + longest)) held-most)
 
-        held-is : held ≡ length (content (r .retry) (r .search) (map (elementAt all) own))
-        held-is = ap (λ (es : List Element). length (content (r .retry) (r .search) es)) same-elements
+      abbrev made : TicketWritten
+      made = ticketWritten (r .retry) (r .search) (l .lent) out
 
-        held-most : held ≤ ticketHeadBytes + p .«proof_size» * (maxHeadBytes + longest)
-        held-most =
-            rw held-is
-            (subst
-            (λ (k : ℕ). length (content (r .retry) (r .search) (map (elementAt all) own)) ≤ ticketHeadBytes + k * (maxHeadBytes + longest))
-            elements-count (content-most longest (r .retry) (r .search) (map (elementAt all) own) own-short))
+      fitting : blockBytes * blockCount held ≤ length out → (made .number ≡ 0) × (made .count ≡ blockCount held)
+      fitting = ticket-made (r .retry) (r .search) (l .lent) out (l .accepted)
 
-        blocks-most : blockCount held ≤ a .«ticket_blocks»
-        blocks-most =
-            rw (blocks-are p longest a G) (blocks-rise held (ticketHeadBytes + p .«proof_size» * (maxHeadBytes + longest)) held-most)
+      blocks-within : made .count ≤ a .«ticket_blocks»
+      blocks-within = elim (lt-or-le (length out) (blockBytes * blockCount held)) [
+        | inl s ↦ rw (ticket-unmade (r .retry) (r .search) (l .lent) out (l .accepted) s) (omega arith)
+        | inr h ↦ rw (fitting h .1) blocks-most
+      ]
 
-        made : (ticketWritten (r .retry) (r .search) sent out .number ≡ 0)
-            × (ticketWritten (r .retry) (r .search) sent out .count
-            ≡ blockCount held)
-        made = ticket-made (r .retry) (r .search) sent out accepted-parts
-            (omega (arith, blocks-most, room))
+      module _ (room : blockBytes * a .«ticket_blocks» ≤ length out) where
+        room-for-it : blockBytes * blockCount held ≤ length out
+        room-for-it = omega (arith, blocks-most)
 
-        abbrev count : ℕ
-        count = ticketWritten (r .retry) (r .search) sent out .count
-
-        blocks-within : count ≤ a .«ticket_blocks»
-        blocks-within = rw (made .1) blocks-most
+        made-with-room : made .number ≡ 0
+        made-with-room = fitting room-for-it .0
 
         tight : Each (λ (e : Element). (length (e .bytes) ≡ longest) × (markOf (e .index) ≡ 1)) (map (elementAt all) own)
-            → count ≡ a .«ticket_blocks»
+            → made .count ≡ a .«ticket_blocks»
         tight E =
-            made .1 ∙ rw (
+            fitting room-for-it .1 ∙ rw (
               blocks-are p longest a G,
               held-is,
               content-exact longest (r .retry) (r .search) (map (elementAt all) own) E,
@@ -332,14 +333,25 @@ module _ (p : Params) (lent : Lent) (places table : List ℕ) (n : proved p lent
             )
 
 pub ticket-fits : ticketFits
-ticket-fits p longest a P lent places table short n buffers out room =
+ticket-fits p longest a P lent places table short n =
     let G = given p longest a P in
     record {
-      listed = listed p lent places table n longest a G short buffers out;
-      number = λ W. made p lent places table n longest a G short buffers out W room .0;
-      blocks = λ W. blocks-within p lent places table n longest a G short buffers out W room;
-      tight = λ W E. tight p lent places table n longest a G short buffers out W room E;
+      listed = listed p lent places table n longest a G short;
+      number = made-with-room p lent places table n longest a G short;
+      blocks = blocks-within p lent places table n longest a G short;
+      tight = tight p lent places table n longest a G short;
     }
+
+-- ---- any ticket
+
+pub ticket-bounded : ticketBounded
+unfolding ticket
+ticket-bounded t k longest E =
+    let c = content (k .0) (k .1) (k .2) in
+    let many : length t ≡ blockBytes * blockCount (length c) = rw (k .4) (length-blocks c) in
+    let size : ℕ = ticketHeadBytes + length (k .2) * (maxHeadBytes + longest) in
+    let most = blocks-rise (length c) size (content-most longest (k .0) (k .1) (k .2) E) in
+    omega (arith, blocks-counted .0 t k)
 
 -- ---- the example, computed
 

@@ -32,26 +32,24 @@ module _ (ps : List ℕ) (lent : Lent) (buffers : Lent) where
   list-refused r l = refused r (number-met (listCheck lent) _ (refusalNumber r) l (refusal-number r))
 
   module _ (A : listCheck lent ≡ 0) where
-    many-met : maxElements < length ps → writeRefusal ps lent buffers ≡ 5
+    place-met : placeOut (length n) ps ≡ true → writeRefusal ps lent buffers ≡ 4
     unfolding writeRefusal
-    many-met t =
-        second-met (listCheck lent) (line 5 (ltb maxElements (length ps))) _ 5 A (rw (lt-ltb maxElements (length ps) t))
-        (refusal-number refusal.TooLarge)
+    place-met t = second-met (listCheck lent) (line 4 (placeOut (length n) ps)) _ 4 A (rw t) (refusal-number refusal.Malformed)
 
-    pub too-many : maxElements < length ps → proofListBy (w.Refused refusal.TooLarge) buffers ≡ proofList ps lent buffers
-    too-many t = refused refusal.TooLarge (many-met t)
+    pub place-past : placeOut (length n) ps ≡ true → proofListBy (w.Refused refusal.Malformed) buffers ≡ proofList ps lent buffers
+    place-past t = refused refusal.Malformed (place-met t)
 
-    module _ (F : length ps ≤ maxElements) where
-      place-met : placeOut (length n) ps ≡ true → writeRefusal ps lent buffers ≡ 4
+    module _ (P : placeOut (length n) ps ≡ false) where
+      many-met : maxElements < length ps → writeRefusal ps lent buffers ≡ 5
       unfolding writeRefusal
-      place-met t =
-          two-passed (listCheck lent) (line 5 (ltb maxElements (length ps))) _ A (rw (le-ltb maxElements (length ps) F))
-          ∙ number-met (line 4 (placeOut (length n) ps)) _ 4 (rw t) (refusal-number refusal.Malformed)
+      many-met t =
+          two-passed (listCheck lent) (line 4 (placeOut (length n) ps)) _ A (rw P)
+          ∙ number-met (line 5 (ltb maxElements (length ps))) _ 5 (rw (lt-ltb maxElements (length ps) t)) (refusal-number refusal.TooLarge)
 
-      pub place-past : placeOut (length n) ps ≡ true → proofListBy (w.Refused refusal.Malformed) buffers ≡ proofList ps lent buffers
-      place-past t = refused refusal.Malformed (place-met t)
+      pub too-many : maxElements < length ps → proofListBy (w.Refused refusal.TooLarge) buffers ≡ proofList ps lent buffers
+      too-many t = refused refusal.TooLarge (many-met t)
 
-      module _ (P : placeOut (length n) ps ≡ false) where
+      module _ (F : length ps ≤ maxElements) where
         -- the size that the code asks for is that of the data bytes written
         abbrev short : ℕ → Bool
         short size = buffersShort (length ps) size buffers
@@ -62,8 +60,8 @@ module _ (ps : List ℕ) (lent : Lent) (buffers : Lent) where
         pub last-met : (u : Bool) → short (length (joinedData (chosen ps lent))) ≡ u → writeRefusal ps lent buffers ≡ cond u 42 0
         unfolding writeRefusal
         last-met u s =
-            two-passed (listCheck lent) (line 5 (ltb maxElements (length ps))) _ A (rw (le-ltb maxElements (length ps) F))
-            ∙ number-passed (line 4 (placeOut (length n) ps)) _ (rw P)
+            two-passed (listCheck lent) (line 4 (placeOut (length n) ps)) _ A (rw P)
+            ∙ number-passed (line 5 (ltb maxElements (length ps))) _ (rw (le-ltb maxElements (length ps) F))
             ∙ rw s (number-last (cond u 42 0))
 
         module _ (t : Bool) (s : t ≡ short (length (dataOf d n ps))) where

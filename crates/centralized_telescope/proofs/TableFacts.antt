@@ -6,7 +6,8 @@ use native.Mathlib.Omega.{arith}
 use lib.ListN.{length, getD, length-take}
 use lib.Seq.{slice}
 use Rattle.centralized_telescope.specs.declared.params.Params.{Params}
-use Rattle.centralized_telescope.specs.laws.ParamsLaws.{Lawful, lawful}
+use Rattle.centralized_telescope.specs.laws.ParamsLaws.{lawful}
+use Rattle.centralized_telescope.specs.later.VerdictExactly.{Lawful}
 use Rattle.centralized_telescope.specs.core.Elements.{elementAt}
 use Rattle.centralized_telescope.specs.laws.ElementsLaws.{at-kept}
 use Rattle.centralized_telescope.specs.core.Rounds.{nextHash}

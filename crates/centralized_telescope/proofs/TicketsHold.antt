@@ -1,10 +1,10 @@
--- The five claims on tickets.
+-- The six claims on tickets.
 use mathlib.Core.Path.{_≡_, refl, sym, ap, _∙_}
 use mathlib.Core.Bool.{Bool, true, false, cond}
 use mathlib.Core.Logic.{⊎-elim}
 use mathlib.Core.List.{List, [], _∷_, _++_}
 use mathlib.Core.Option.{Option, none, some}
-use Prim.Native.Nat.{ℕ, zero, suc, _-_, _*_, _/_, _^_, _≤_, _<_}
+use Prim.Native.Nat.{ℕ, zero, suc, _-_, _*_, _/_, _%_, _^_, _≤_, _<_}
 use native.Mathlib.Omega.{arith}
 use borrow.Author.Tests.{eq-eqb, ltb-false, le-ltb}
 use lib.Dec.{ltb}
@@ -26,6 +26,7 @@ use Rattle.centralized_telescope.specs.core.Elements.{Element, elementsF
 use Rattle.centralized_telescope.specs.core.Elements.{maxDataBytes}
 use Rattle.centralized_telescope.specs.later.Words.{markOf, numberOf}
 use Rattle.centralized_telescope.specs.core.Verifier.{verdict}
+use Rattle.centralized_telescope.specs.core.Exports.{exportedVerdict}
 use Rattle.centralized_telescope.specs.later.ProofList.{joinedData, marksOf, indexesOf, buffersShort, listOf}
 use Rattle.centralized_telescope.specs.later.Blocks.{blockCount, blocks, bodiesOf, damaged, blockBytes}
 use Rattle.centralized_telescope.specs.later.Tickets.{content, ticket, ElementFits, ProofFits, IsTicket, blocksIn, retryIn, searchIn}
@@ -33,8 +34,11 @@ use Rattle.centralized_telescope.specs.later.Tickets.{proofIn, isTicket,
 use Rattle.centralized_telescope.specs.later.Tickets.{readOut, ticketReadRefusal, ticketRead}
 use Rattle.centralized_telescope.specs.later.TicketClaims.{blocksOf, readList, HasRoom, carried, CanCarry, ReadBack, readsBack}
 use Rattle.centralized_telescope.specs.later.TicketClaims.{WrittenBack, writtenAgain, writesBack, judgedAgain, judgedAlike}
-use Rattle.centralized_telescope.specs.later.TicketClaims.{TicketOrNot, OneProof, ticketsExactly, blocksCounted}
+use Rattle.centralized_telescope.specs.later.TicketClaims.{TicketOrNot, OneProof, ticketsExactly, blocksCounted, inBytes}
+use Rattle.centralized_telescope.specs.later.TicketClaims.{lentInBytes, judgedInBytes, bytesJudgedAlike}
+use Rattle.centralized_telescope.specs.laws.InBytesLaws.{numbers-back, whole-count, numbered-back, ends-fit, indexes-fit}
 use Rattle.centralized_telescope.proofs.TicketAnswers.{no-ticket}
+use Rattle.centralized_telescope.proofs.VerdictHolds.{of-numbers}
 
 -- ---- the elements of an accepted list whose indexes are of 64 bits
 
@@ -310,6 +314,43 @@ module _ (t : List ℕ) (buffers : Lent) where
         fits = λ N. fits N B;
         same = same;
       }
+
+-- ---- in bytes
+
+-- a list whose numbers fit
+in-bytes : (p : Params) (R S : ℕ) (lent : Lent) → Each (λ (v : ℕ). v < 2 ^ 32) (lent .ends) → Each (λ (v : ℕ). v < 2 ^ 64) (lent .indexes)
+    → exportedVerdict p R S (lentInBytes lent) ≡ verdict p R S lent
+in-bytes p R S lent E X =
+    let ends = eq-eqb (length (inBytes 4 (lent .ends)) % 4) 0 (whole-count 4 (lent .ends)) in
+    let indexes = eq-eqb (length (inBytes 8 (lent .indexes)) % 8) 0 (whole-count 8 (lent .indexes)) in
+    of-numbers p R S (lentInBytes lent) (rw (ends, indexes)) ∙ ap (verdict p R S) (numbered-back lent E X)
+
+-- what a reader reads of a proof within the limits
+read-in-bytes : (p : Params) (R S : ℕ) (es : List Element) (buffers : Lent) → ProofFits R S es
+    → judgedInBytes p (readOut R S es buffers) ≡ judgedAgain p (readOut R S es buffers)
+unfolding readOut
+read-in-bytes p R S es buffers F =
+    let E = ends-fit (2 ^ 32) 0 es (F .each) (omega (arith, F .few)) in
+    let X = indexes-fit es (F .each) in
+    ap (λ (lent : Lent). exportedVerdict p R S (lentInBytes lent)) (parts R S es buffers) ∙ in-bytes p R S (listOf es) E X
+    ∙ sym (verdict-on R S es buffers p)
+
+bytes-alike : (p : Params) (t : List ℕ) (buffers : Lent) → Each (λ (b : ℕ). b < 256) t → ticketRead t buffers .number ≡ 0
+    → judgedInBytes p (ticketRead t buffers) ≡ judgedAgain p (ticketRead t buffers)
+bytes-alike p t buffers B N =
+    rw (read t buffers N)
+    (read-in-bytes p (R′ t buffers) (S′ t buffers) (es′ t buffers) buffers (ticket-is t (each-bytes t B) (accepts t buffers N .is)))
+
+carried-alike : (p : Params) (R S : ℕ) (lent : Lent) (out : List ℕ) (buffers : Lent) → CanCarry R S lent out buffers
+    → judgedInBytes p (carried R S lent out buffers) ≡ verdict p R S lent
+carried-alike p R S lent out buffers C =
+    ap (judgedInBytes p) (all-read R S lent out buffers C)
+    ∙ read-in-bytes p R S (elements lent) buffers (reads R S lent out buffers C)
+    ∙ sym (ap (judgedAgain p) (all-read R S lent out buffers C))
+    ∙ judged-alike p R S lent out buffers C
+
+pub bytes-judged-alike : bytesJudgedAlike
+bytes-judged-alike = (numbers-back, in-bytes, bytes-alike, carried-alike)
 
 pub writes-back : writesBack
 writes-back t buffers out N l = write-back t buffers N out l

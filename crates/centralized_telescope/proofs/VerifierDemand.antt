@@ -1,25 +1,30 @@
 -- Demand 3, of the verifier: its verdict by cases. Each field of `OfVerifier` is a declaration of its name.
-use mathlib.Core.Path.{_≡_, refl, sym, _∙_}
+use mathlib.Core.Path.{_≡_, refl, sym, _∙_, subst}
 use mathlib.Core.Bool.{Bool, true, false, false≢true, not, _||_}
 use mathlib.Core.Logic.{_⊎_, _↔_, inl, inr}
-use mathlib.Core.List.{List, [], _∷_}
+use mathlib.Core.List.{List, [], _∷_, List·Memᴰ}
 use Prim.Native.Nat.{ℕ, _≤_, _<_}
-use native.Mathlib.Nat.{eq-or-lt-of-le}
 use native.Mathlib.Omega.{arith}
 use borrow.Author.Tests.{eqb-true, eqb-false, leb-true, leb-false}
 use lib.Dec.{eqb, leb}
-use lib.ListN.{length}
+use lib.ListN.{length, getD}
 use Rattle.sampling.specs.core.FirstNumber.{line, firstNumber}
 use Rattle.centralized_telescope.specs.declared.params.Params.{Params}
-use Rattle.centralized_telescope.specs.laws.TestLaws.{neither}
+use Rattle.centralized_telescope.specs.laws.TestLaws.{neither, lt-or-le}
+use Rattle.centralized_telescope.specs.laws.ListsLaws.{at-place}
 use Rattle.centralized_telescope.specs.core.Params.{checked}
 use Rattle.centralized_telescope.specs.core.Elements.{Element, elements, listCheck, Lent}
-use Rattle.centralized_telescope.specs.laws.ElementsLaws.{check-range}
+use Rattle.centralized_telescope.specs.laws.ElementsLaws.{check-range, check-least}
 use Rattle.centralized_telescope.specs.core.Chains.{ElementsPass}
 use Rattle.centralized_telescope.specs.core.Verifier.{lastHash, yesOn, countersOut, judged, verdict}
 use Rattle.centralized_telescope.specs.laws.VerifierLaws.{yes-exists, exists-yes}
 use Rattle.centralized_telescope.specs.core.Demand3.{Accepted, OfVerifier}
+use Rattle.centralized_telescope.specs.later.VerdictExactly.{verdictNumbers}
 use Rattle.centralized_telescope.proofs.VerdictAnswers.{list-met, left-to-judge}
+
+-- a number that is the k-th of the verifier's
+pub among : (v k : ℕ) → k < length verdictNumbers → v ≡ getD verdictNumbers k 0 → List·Memᴰ v verdictNumbers
+among v k h e = subst (λ (n : ℕ). List·Memᴰ n verdictNumbers) (sym e) (at-place verdictNumbers k h)
 
 module _ (p : Params) (R S : ℕ) (lent : Lent) where
   abbrev es : List Element
@@ -53,7 +58,7 @@ module _ (p : Params) (R S : ℕ) (lent : Lent) where
     by-none : v ≡ 0 → In → Pass → Judged v
 
   data Met (v : ℕ) : Type 0 where
-    by-list : v ≡ list → 0 < list → list < 6 → Met v
+    by-list : v ≡ list → 4 ≤ list → list < 6 → Met v
     accepted : list ≡ 0 → Judged v → Met v
 
   -- ---- where each number is the verdict
@@ -137,12 +142,34 @@ module _ (p : Params) (R S : ℕ) (lent : Lent) where
     v = verdict p R S lent
 
     met : Met v
-    met = elim (eq-or-lt-of-le {n = 0} {m = list} (omega arith)) [
-      | inl e ↦ let a : list ≡ 0 = sym e in accepted a (rw (← left-to-judge p R S lent s a) judged-so)
+    met = elim (check-least lent) [
+      | inl a ↦ accepted a (rw (← left-to-judge p R S lent s a) judged-so)
       | inr l ↦
           by-list (sym (list-met p R S lent s (λ z. omega arith))) l
           (check-range lent)
     ]
+
+    -- the settings' numbers, and 3, don't come
+    none-below : (k : ℕ) → 0 < k → k < 4 → Met v → v ≡ k → ⊥
+    none-below k o s (by-list e z r) q = omega arith
+    none-below k o s (accepted a j) q = no-list-number v k o (omega arith) j q
+
+    pub not-settings : (k : ℕ) → 0 < k → k < 4 → v ≡ k → ⊥
+    not-settings k o s q = none-below k o s met q
+
+    -- and so one of the verifier's does
+    known : Met v → List·Memᴰ v verdictNumbers
+    known (by-list e z r) = elim (lt-or-le list 5) [
+      | inl l ↦ among v 3 (omega arith) (omega arith)
+      | inr l ↦ among v 4 (omega arith) (omega arith)
+    ]
+    known (accepted a (by-length e n)) = among v 5 (omega arith) e
+    known (accepted a (by-counters e l c)) = among v 6 (omega arith) e
+    known (accepted a (by-chain e l i n)) = among v 7 (omega arith) e
+    known (accepted a (by-none e i w)) = among v 0 (omega arith) e
+
+    pub one-known : List·Memᴰ v verdictNumbers
+    one-known = known met
 
     -- ---- the fields
 

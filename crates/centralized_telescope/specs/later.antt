@@ -1,4 +1,6 @@
 -- What is read later, over the core, in reading order: no answer of prove or verify needs it.
+pub mod FoundExample
+pub mod VerdictExactly
 pub mod Words
 pub mod SmallCase
 pub mod Distinct

@@ -24,6 +24,7 @@ pub mod BlocksLaws
 pub mod BlocksReadLaws
 pub mod TicketsLaws
 pub mod TicketsReadLaws
+pub mod InBytesLaws
 pub mod PlanLaws
 pub mod DigitsLaws
 pub mod ProofSizeLaws

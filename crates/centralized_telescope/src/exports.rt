@@ -5,7 +5,8 @@ ghost use Prim.Native.Nat.{_/_, _<_};
 ghost use lib.ListN.{length, getD};
 ghost use Rattle.centralized_telescope.specs.core.Elements.{elements, endWrong, dataLong, listCheck, listCheckBy, lentAtEntry};
 ghost use Rattle.centralized_telescope.specs.core.Verifier.{lastHash, yesOn, judged, verdictBy};
-ghost use Rattle.centralized_telescope.specs.inner.ListReading.{lentNow};
+ghost use Rattle.centralized_telescope.specs.later.Words.{markOf, numberOf};
+ghost use Rattle.centralized_telescope.specs.inner.ListReading.{indexAt, lentNow};
 ghost use Rattle.centralized_telescope.specs.core.Params.{settingsOf};
 ghost use Rattle.centralized_telescope.specs.core.Exports.{numbersOf, numbered, exportedVerdict};
 use crate::errors::Refusal;
@@ -14,6 +15,7 @@ use crate::numbers::wide;
 use crate::params::Checked;
 use crate::params::Params;
 use crate::params::check_params;
+use crate::params::settings_of;
 use crate::proof::Verdict;
 use crate::proof::first_round;
 use crate::proof::is_nowhere;
@@ -30,7 +32,6 @@ use crate::types::is_data_long;
 use crate::types::is_end_wrong;
 use crate::types::list_answer;
 use crate::types::some_mark_over;
-use sampling::U128;
 
 // What the ends in bytes are found to be.
 pub struct EndsFound {
@@ -48,12 +49,19 @@ fn end_at(ends: &[u8], place: usize) -> u32
     number(ends, 4 * place, 4) as u32
 }
 
-// The index at a place.
-fn index_at(indexes: &[u8], place: usize) -> u64
-    requires { ⌜ place < length (now indexes) / 8 ⌝ }
-    ensures { λ r. ⌜ r ≡ getD (numbersOf 8 (now (indexes .entry))) place 0 ⌝ }
+// The index at a place. Where the mark isn't 1, no byte of it is read.
+fn index_at(marks: &[u8], indexes: &[u8], place: usize) -> Index
+    requires { ⌜ (place < length (now marks)) × (place < length (now indexes) / 8) ⌝ }
+    ensures { λ r. ⌜ (r .mark ≡ markOf (indexAt (now (marks .entry)) (numbersOf 8 (now (indexes .entry))) place))
+        × (r .number ≡ numberOf (indexAt (now (marks .entry)) (numbersOf 8 (now (indexes .entry))) place)) ⌝ }
 {
-    number(indexes, 8 * place, 8)
+    if marks[place] != 1 {
+        return Index { mark: 0, number: 0 };
+    }
+    Index {
+        mark: 1,
+        number: number(indexes, 8 * place, 8),
+    }
 }
 
 // Whether one of two tests says yes. Both were made before the call, whatever the first one said.
@@ -123,11 +131,7 @@ fn chain_passes_in_bytes(
         }
         let end = wide(end_at(ends, i));
         let own = &data[start..end];
-        let index = Index {
-            mark: marks[i],
-            number: index_at(indexes, i),
-        };
-        round = next_round(p, retry, round, own, index);
+        round = next_round(p, retry, round, own, index_at(marks, indexes, i));
         start = end;
         i += 1;
     }
@@ -208,20 +212,16 @@ pub extern "C" fn alba_verify(
     ensures { λ r. ⌜ r ≡ exportedVerdict (settingsOf «set_size» «proof_size» «max_retries» «search_width» «dfs_bound» «x_high» «x_low»)
         «retry_counter» «search_counter» (lentAtEntry «data» ends marks indexes) ⌝ }
 {
-    // not by `settings_of`: dist/telescope.c is made of this very code
-    let p = Params {
-        set_size,
-        proof_size,
-        max_retries,
-        search_width,
-        dfs_bound,
-        x: U128 {
-            hi: x_high,
-            lo: x_low,
-        },
-    };
     verdict_number(verify_bytes(
-        p,
+        settings_of(
+            set_size,
+            proof_size,
+            max_retries,
+            search_width,
+            dfs_bound,
+            x_high,
+            x_low,
+        ),
         RetryCounter(retry_counter),
         SearchCounter(search_counter),
         data,

@@ -144,11 +144,11 @@ pub fn write_proof(
             return Written::Refused(k);
         }
     }
-    if MAX_ELEMENTS < places.len() {
-        return Written::Refused(Refusal::TooLarge);
-    }
     if some_place_out(places, ends.len()) {
         return Written::Refused(Refusal::Malformed);
+    }
+    if MAX_ELEMENTS < places.len() {
+        return Written::Refused(Refusal::TooLarge);
     }
     if some_buffer_short(
         places,

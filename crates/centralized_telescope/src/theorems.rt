@@ -1,12 +1,17 @@
 // What is promised beyond the single calls. Each function here does nothing: its contract is a theorem of `specs/`, so that the crate is
 // not proved without it, and the check names it.
-ghost use Rattle.centralized_telescope.specs.later.AllCases.{AllCases};
+ghost use Rattle.centralized_telescope.specs.later.AllCases.{AllCases, casesServed};
 ghost use Rattle.centralized_telescope.specs.core.Demand3.{demand3, servedExample};
+ghost use Rattle.centralized_telescope.specs.later.FoundExample.{foundExample};
+ghost use Rattle.centralized_telescope.specs.later.VerdictExactly.{verdictExactly};
 ghost use Rattle.centralized_telescope.specs.later.Distinct.{distinctExactly};
 ghost use Rattle.centralized_telescope.specs.later.FirstLayout.{firstRefused};
-ghost use Rattle.centralized_telescope.specs.later.PlanClaims.{planSuffices, planNeeded, stepsNotPassed, ticketFits, tightExample};
-ghost use Rattle.centralized_telescope.specs.later.ProofSize.{sizeNeverFalls, sizeNeverRises};
-ghost use Rattle.centralized_telescope.specs.later.TicketClaims.{readsBack, writesBack, judgedAlike, ticketsExactly, blocksCounted};
+ghost use Rattle.centralized_telescope.specs.later.PlanClaims.{planSuffices, planNeeded, stepsNotPassed, ticketFits, ticketBounded};
+ghost use Rattle.centralized_telescope.specs.later.PlanClaims.{tightExample};
+ghost use Rattle.centralized_telescope.specs.later.ProofList.{proofListed};
+ghost use Rattle.centralized_telescope.specs.later.ProofSize.{sizeNeverFalls, sizeNeverRises, sizeOneAnswer};
+ghost use Rattle.centralized_telescope.specs.later.TicketClaims.{readsBack, writesBack, judgedAlike, bytesJudgedAlike};
+ghost use Rattle.centralized_telescope.specs.later.TicketClaims.{ticketsExactly, blocksCounted};
 
 // The claim on prove and verify at once, for every run that is served.
 pub fn demand_3()
@@ -18,9 +23,24 @@ pub fn served_example()
     ensures { λ _. ⌜ servedExample ⌝ }
 {}
 
+// One that finds a proof, which the verifier accepts.
+pub fn found_example()
+    ensures { λ _. ⌜ foundExample ⌝ }
+{}
+
+// The verdict under any settings, on any counters and any list: which number comes exactly when.
+pub fn verdict_exactly()
+    ensures { λ _. ⌜ verdictExactly ⌝ }
+{}
+
 // Cases a to l of document 01, of the definitions that the contracts cite.
 pub fn all_cases()
     ensures { λ _. ⌜ AllCases ⌝ }
+{}
+
+// Runs of cases i to l are served, with one element and with two.
+pub fn cases_served()
+    ensures { λ _. ⌜ casesServed ⌝ }
 {}
 
 // On an accepted list the answer of `check_distinct` is yes exactly when no two places hold the same element.
@@ -41,6 +61,11 @@ pub fn ticket_writes_back()
 // The verdict on a proof that was written and read is the one on the proof.
 pub fn ticket_judged_alike()
     ensures { λ _. ⌜ judgedAlike ⌝ }
+{}
+
+// What was read from a ticket, its ends and indexes written in bytes, has the same verdict of `alba_verify`.
+pub fn bytes_judged_alike()
+    ensures { λ _. ⌜ bytesJudgedAlike ⌝ }
 {}
 
 // Of whole blocks whose checks hold, the reader's 41 is for those that are no proof's ticket; 40 is for damaged bytes, 42 for a proof's
@@ -75,9 +100,15 @@ pub fn steps_not_passed()
     ensures { λ _. ⌜ stepsNotPassed ⌝ }
 {}
 
-// A proof found, written out as a list and then as a ticket, fits the planned blocks, where no element's data is longer than planned for.
+// A proof found, in any accepted list of its elements, fits the planned blocks as a ticket, where no element's data is longer than planned
+// for.
 pub fn ticket_fits()
     ensures { λ _. ⌜ ticketFits ⌝ }
+{}
+
+// No ticket, whoever wrote it, has more blocks than those of 24 bytes and, for each element, 13 and the longest data.
+pub fn ticket_bounded()
+    ensures { λ _. ⌜ ticketBounded ⌝ }
 {}
 
 // Elements whose ticket takes all the blocks that are planned for.
@@ -94,4 +125,14 @@ pub fn size_never_falls()
 // Nor does it rise when the set grows.
 pub fn size_never_rises()
     ensures { λ _. ⌜ sizeNeverRises ⌝ }
+{}
+
+// Two answers of `proof_size` to the same figures are the same: its relation has one answer alone.
+pub fn size_one_answer()
+    ensures { λ _. ⌜ sizeOneAnswer ⌝ }
+{}
+
+// What `write_proof` leaves is a list that is accepted, of the elements at the places.
+pub fn proof_listed()
+    ensures { λ _. ⌜ proofListed ⌝ }
 {}

@@ -5,6 +5,7 @@ mod big_endian;
 mod exports;
 mod sample;
 pub mod sha256;
+mod theorems;
 
 pub use big_endian::eight_bytes;
 pub use big_endian::number_of;
@@ -15,3 +16,4 @@ pub use sample::U128;
 pub use sample::sample_bernoulli;
 pub use sample::sample_uniform;
 pub use sample::threshold_of;
+pub use theorems::hasher_hashes;

@@ -7,7 +7,6 @@ use centralized_telescope::RetryCounter;
 use centralized_telescope::SearchCounter;
 use centralized_telescope::TicketBlocks;
 use centralized_telescope::TicketProof;
-use outcomes::say_outcome;
 use outcomes::say_refused;
 use proof_files::CountersLine;
 use proof_files::first_bytes;
@@ -152,7 +151,11 @@ pub fn read(ticket: &[u8], proof: &[u8]) {
     let mut room = ticket_room();
     let fetched = proof_files::read_bytes(ticket, &mut room);
     if fetched.too_long {
-        say_outcome(b"refused", 42);
+        // the program's own limit, and no answer of the library: what is in the file isn't known
+        say_of_file(
+            ticket,
+            b"over 3,771 blocks, for which the program has no room; the file isn't read",
+        );
     }
     if !fetched.whole {
         return;

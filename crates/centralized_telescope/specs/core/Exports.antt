@@ -27,11 +27,10 @@ isWholeCount k bytes = eqb (length bytes % k) 0
 abbrev pub numbered : Lent → Lent
 numbered lent = lentOf (lent .bytes) (numbersOf 4 (lent .ends)) (lent .marks) (numbersOf 8 (lent .indexes))
 
--- the verdict on it; bytes that are left over make it refusal 4, behind the settings' refusals
+-- 4, Malformed, comes of bytes that are left over too
+abbrev pub leftOver : Lent → Bool
+leftOver lent = not (isWholeCount 4 (lent .ends) && isWholeCount 8 (lent .indexes))
+
+-- the verdict on it; bytes that are left over are looked for behind the settings' refusals
 unfoldable pub exportedVerdict : Params → ℕ → ℕ → Lent → ℕ
-exportedVerdict p R S lent =
-    firstNumber
-    (checked p
-    ∷ line 4 (not (isWholeCount 4 (lent .ends) && isWholeCount 8 (lent .indexes)))
-    ∷ verdict p R S (numbered lent)
-    ∷ [])
+exportedVerdict p R S lent = firstNumber (checked p ∷ line 4 (leftOver lent) ∷ verdict p R S (numbered lent) ∷ [])

@@ -8,8 +8,9 @@ use lib.Ieee.{Float, fin}
 use lib.ListN.{length, replicate}
 use Rattle.sampling.specs.core.Sample.{uniform, valueOf, bernoulli}
 use Rattle.sampling.specs.later.Threshold.{converted, xOf}
-use Rattle.centralized_telescope.specs.core.Elements.{Lent}
+use Rattle.centralized_telescope.specs.core.Elements.{Lent, lentOf}
 use Rattle.centralized_telescope.specs.declared.params.Params.{Params}
+use Rattle.centralized_telescope.specs.later.VerdictExactly.{Limits}
 use Rattle.centralized_telescope.specs.later.SmallCase.{completenessOut, smallCase}
 use Rattle.centralized_telescope.specs.core.Lists.{Each}
 use Rattle.centralized_telescope.specs.core.Prover.{proved}
@@ -116,3 +117,11 @@ cases =
 
 abbrev pub AllCases : Type 0
 AllCases = Each Holds cases
+
+-- ---- that cases i to l speak of something: such settings, if within the limits, are served with one element and with two
+
+abbrev pub casesServed : Type 0
+casesServed =
+    (size width retries bound : ℕ) → Limits (caseSettings size width retries bound)
+    → Served (caseSettings size width retries bound) (lentOf [] (0 ∷ []) (0 ∷ []) (0 ∷ [])) (replicate size 0) (replicate 4 0)
+    × Served (caseSettings size width retries bound) (lentOf [] (0 ∷ 0 ∷ []) (0 ∷ 0 ∷ []) (0 ∷ 0 ∷ [])) (replicate size 0) (replicate 4 0)

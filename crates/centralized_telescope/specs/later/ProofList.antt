@@ -1,5 +1,6 @@
 -- Elements written out the way lists are lent, which document 01, Verifier, has a prover's proof be, and what `write_proof` answers and
 -- leaves in each lent buffer.
+use mathlib.Core.Path.{_≡_}
 use mathlib.Core.Bool.{Bool, cond, _||_}
 use mathlib.Core.List.{List, [], _∷_, _++_, map}
 use Prim.Native.Nat.{ℕ, _+_}
@@ -78,14 +79,14 @@ unfoldable pub listOver : List Element → Lent → ProofList
 listOver es buffers = withBuffers 0 (length (joinedData es)) (overAll (listOf es) buffers)
 
 module _ (places : List ℕ) (lent buffers : Lent) where
-  -- the first refusal, or 0: those of the list; 5 for a proof that would be refused as a list of over 65,536 elements; 4 for a place past
-  -- the list; 42 for a lent buffer that is too short
+  -- the first refusal, or 0: those of the list; then, of the places, 4 for one past the list, and 5 for more than a list has, 65,536;
+  -- 42 for a lent buffer that is too short
   unfoldable pub writeRefusal : ℕ
   writeRefusal =
       firstNumber
       (listCheck lent
-      ∷ line 5 (ltb maxElements (length places))
       ∷ line 4 (placeOut (length (lent .ends)) places)
+      ∷ line 5 (ltb maxElements (length places))
       ∷ line 42 (buffersShort (length places) (length (joinedData (chosen places lent))) buffers)
       ∷ [])
 
@@ -98,3 +99,15 @@ module _ (places : List ℕ) (lent buffers : Lent) where
 abbrev pub proofListBy : Written → Lent → ProofList
 proofListBy (w.List len) buffers = withBuffers 0 len buffers
 proofListBy (w.Refused k) buffers = withBuffers (refusalNumber k) 0 buffers
+
+-- ---- what is written is a list that is accepted, of the elements at the places
+
+-- the list that an answer leaves, an element for each place
+abbrev pub writtenList : List ℕ → ProofList → Lent
+writtenList places r = frontOf (r .len) (length places) (r .buffers)
+
+abbrev pub proofListed : Type 0
+proofListed =
+    (places : List ℕ) (lent buffers : Lent) → proofList places lent buffers .number ≡ 0
+    → (listCheck (writtenList places (proofList places lent buffers)) ≡ 0)
+    × (elements (writtenList places (proofList places lent buffers)) ≡ chosen places lent)

@@ -67,3 +67,8 @@ abbrev pub sizeNeverRises : Type 0
 sizeNeverRises =
     (s c n f n′ : ℕ) → InRange s c n′ f → n ≤ n′
     → (number u number′ u′ : ℕ) → SizeIs s c n f number u → SizeIs s c n′ f number′ u′ → NoLess number′ u′ number u
+
+-- the relation has one answer alone
+abbrev pub sizeOneAnswer : Type 0
+sizeOneAnswer =
+    (s c n f number u number′ u′ : ℕ) → SizeIs s c n f number u → SizeIs s c n f number′ u′ → (number ≡ number′) × (u ≡ u′)

@@ -1,16 +1,17 @@
--- Document 02, N1 and N7, what holds of tickets beyond the single calls: five claims over the definitions that the contracts of
--- `write_ticket`, `read_ticket` and `verify` equate their results with.
+-- Document 02, N1 and N7, what holds of tickets beyond the single calls: six claims over the definitions that the contracts of
+-- `write_ticket`, `read_ticket`, `verify` and `alba_verify` equate their results with.
 use mathlib.Core.Path.{_≡_}
 use mathlib.Core.Bool.{true, false}
 use mathlib.Core.Logic.{_↔_}
-use mathlib.Core.List.{List}
+use mathlib.Core.List.{List, [], _∷_, _++_}
 use Prim.Native.Nat.{ℕ, _*_, _/_, _^_, _≤_, _<_}
 use lib.ListN.{length, take, getD}
-use Rattle.sampling.specs.core.BigEndian.{bigEndian}
+use Rattle.sampling.specs.core.BigEndian.{bigEndian, bytesOf}
 use Rattle.centralized_telescope.specs.declared.params.Params.{Params}
 use Rattle.centralized_telescope.specs.core.Lists.{Each, over}
-use Rattle.centralized_telescope.specs.core.Elements.{Element, elements, listCheck, Lent}
+use Rattle.centralized_telescope.specs.core.Elements.{Element, elements, listCheck, Lent, lentOf}
 use Rattle.centralized_telescope.specs.core.Verifier.{verdict}
+use Rattle.centralized_telescope.specs.core.Exports.{numbersOf, exportedVerdict}
 use Rattle.centralized_telescope.specs.later.ProofList.{joinedData, frontOf, buffersShort}
 use Rattle.centralized_telescope.specs.later.Blocks.{bodiesOf, damaged, blockBytes}
 use Rattle.centralized_telescope.specs.later.Tickets.{ticket, ProofFits, IsTicket, blocksIn, TicketWritten, ticketWritten, TicketRead}
@@ -92,6 +93,35 @@ abbrev pub judgedAlike : Type 0
 judgedAlike =
     (p : Params) (R S : ℕ) (lent : Lent) (out : List ℕ) (buffers : Lent) → CanCarry R S lent out buffers
     → judgedAgain p (carried R S lent out buffers) ≡ verdict p R S lent
+
+-- ---- 01, Lent and given back, with 02, N1: so does the exported verifier, which takes ends and indexes in bytes, as a loader has them
+
+-- numbers in k big-endian bytes each
+unfoldable pub inBytes : ℕ → List ℕ → List ℕ
+inBytes k [] = []
+inBytes k (v ∷ vs) = bytesOf k v ++ inBytes k vs
+
+-- a list with its ends and indexes so written
+abbrev pub lentInBytes : Lent → Lent
+lentInBytes lent = lentOf (lent .bytes) (inBytes 4 (lent .ends)) (lent .marks) (inBytes 8 (lent .indexes))
+
+-- what was read, r, so written and judged
+abbrev pub judgedInBytes : Params → TicketRead → ℕ
+judgedInBytes p r = exportedVerdict p (r .retry) (r .search) (lentInBytes (readList r))
+
+abbrev pub bytesJudgedAlike : Type 0
+bytesJudgedAlike =
+    -- numbers that fit into k bytes are read as they were written
+    ((k : ℕ) (vs : List ℕ) → 0 < k → Each (λ (v : ℕ). v < 256 ^ k) vs → numbersOf k (inBytes k vs) ≡ vs)
+    -- so a list is judged as it is, with ends of 32 bits and indexes of 64, which `verify` takes
+    × ((p : Params) (R S : ℕ) (lent : Lent) → Each (λ (v : ℕ). v < 2 ^ 32) (lent .ends) → Each (λ (v : ℕ). v < 2 ^ 64) (lent .indexes)
+    → exportedVerdict p R S (lentInBytes lent) ≡ verdict p R S lent)
+    -- whatever ticket was read is judged as `verify` judges it
+    × ((p : Params) (t : List ℕ) (buffers : Lent) → Each (λ (b : ℕ). b < 256) t → ticketRead t buffers .number ≡ 0
+    → judgedInBytes p (ticketRead t buffers) ≡ judgedAgain p (ticketRead t buffers))
+    -- and a ticket that a writer wrote as the proof that was written
+    × ((p : Params) (R S : ℕ) (lent : Lent) (out : List ℕ) (buffers : Lent) → CanCarry R S lent out buffers
+    → judgedInBytes p (carried R S lent out buffers) ≡ verdict p R S lent)
 
 -- ---- 02, N1: which bytes the reader refuses with which number: of whole blocks whose checks hold, 41 is for those that are no proof's
 -- ticket; and what it reads is the proof whose ticket they are

@@ -1,6 +1,7 @@
 -- Laws of accepted lists. A caller that cites these opens none of the definitions.
 use mathlib.Core.Path.{_≡_, refl, sym, ap, _∙_}
 use mathlib.Core.Bool.{Bool, true, false, not}
+use mathlib.Core.Logic.{_⊎_, inl, inr}
 use mathlib.Core.List.{List, [], _∷_}
 use mathlib.Core.Option.{Option, none, some}
 use Prim.Native.Nat.{ℕ, zero, suc, _-_, _≤_, _<_}
@@ -37,6 +38,17 @@ in-range false false = omega arith
 pub check-range : (lent : Lent) → listCheck lent < 6
 unfolding listCheck
 check-range lent = in-range (malformed lent) (tooLarge (lent .ends))
+
+-- and where it isn't 0, it is 4 or more
+at-least-four : (a b : Bool) → (firstNumber (line 4 a ∷ line 5 b ∷ []) ≡ 0) ⊎ (4 ≤ firstNumber (line 4 a ∷ line 5 b ∷ []))
+unfolding firstNumber
+at-least-four true b = inr (omega arith)
+at-least-four false true = inr (omega arith)
+at-least-four false false = inl refl
+
+pub check-least : (lent : Lent) → (listCheck lent ≡ 0) ⊎ (4 ≤ listCheck lent)
+unfolding listCheck
+check-least lent = at-least-four (malformed lent) (tooLarge (lent .ends))
 
 pub record NoFault (lent : Lent) : Type 0 where
   pub marks : length (lent .ends) ≡ length (lent .marks)
@@ -163,11 +175,7 @@ module _ (lent : Lent) (A : listCheck lent ≡ 0) where
     pub index-there : elementAt (elements lent) i .index ≡ indexAt m x i
     index-there = ap (λ (e : Element). e .index) element-there
 
-    -- and by its parts, as they are lent or as `index_of` reads them
-    pub lent-there : (own : List ℕ) (k v : ℕ) → own ≡ dataAt d n i → k ≡ getD m i 0 → v ≡ getD x i 0
-        → elementOf own k v ≡ elementAt (elements lent) i
-    lent-there own k v o a b = same-parts o (rw (a, b)) ∙ sym element-there
-
+    -- and by its parts, as `index_of` reads them
     pub read-there : (own : List ℕ) (k v : ℕ) → own ≡ dataAt d n i → (k ≡ markOf (indexAt m x i)) × (v ≡ numberOf (indexAt m x i))
         → elementOf own k v ≡ elementAt (elements lent) i
     read-there own k v o e = same-parts o (rw (e .0, e .1) (index-again (indexAt m x i))) ∙ sym element-there

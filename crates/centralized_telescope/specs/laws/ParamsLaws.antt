@@ -1,7 +1,7 @@
 -- Laws of the settings' definitions. A caller that cites these opens none of the definitions.
 use mathlib.Core.Path.{_≡_, refl, sym, _∙_}
 use mathlib.Core.Bool.{Bool, true, false}
-use Prim.Native.Nat.{ℕ, _-_, _^_, _≤_, _<_}
+use Prim.Native.Nat.{ℕ, _≤_, _<_}
 use native.Mathlib.Omega.{arith}
 use borrow.Author.Tests.{le-ltb, ltb-false}
 use lib.Dec.{ltb}
@@ -10,6 +10,7 @@ use Rattle.centralized_telescope.specs.laws.TestLaws.{neither}
 use Rattle.sampling.specs.core.FirstNumber.{firstNumber}
 use Rattle.centralized_telescope.specs.core.Params.{notOneTo, setSizeOut, limitBroken, checked, maxSetSize, maxProofSize, maxRetries}
 use Rattle.centralized_telescope.specs.core.Params.{maxSearchWidth, maxDfsBound}
+use Rattle.centralized_telescope.specs.later.VerdictExactly.{SetSizeKept, Limits, Lawful}
 
 -- ---- a range
 
@@ -20,19 +21,11 @@ module _ {hi n : ℕ} where
 
 -- ---- the check
 
--- the whole numbers' limits
-pub record Limits (p : Params) : Type 0 where
-  pub proof-size : p .«proof_size» ≤ maxProofSize
-  pub max-retries : p .«max_retries» ≤ maxRetries
-  pub search-width : p .«search_width» ≤ maxSearchWidth
-  pub dfs-bound : p .«dfs_bound» ≤ maxDfsBound
-
--- all that settings keep which pass the check
-pub record Lawful (p : Params) : Type 0 where
-  pub set-size : (1 ≤ p .«set_size») × (p .«set_size» ≤ maxSetSize)
-  pub limits : Limits p
-
 module _ (p : Params) where
+  pub size-kept : SetSizeKept p → setSizeOut (p .«set_size») ≡ false
+  unfolding notOneTo
+  size-kept k = rw (le-ltb (p .«set_size») 1 (k .0), le-ltb maxSetSize (p .«set_size») (k .1))
+
   pub limits-kept : limitBroken p ≡ false → Limits p
   unfolding limitBroken
   limits-kept e =

@@ -19,7 +19,7 @@ use Rattle.centralized_telescope.specs.core.Lists.{Each, someOf}
 use Rattle.centralized_telescope.specs.laws.ListsLaws.{take-over, none-at, each-nil, each-cons}
 use Rattle.sampling.specs.laws.FirstNumberLaws.{number-none}
 use Rattle.centralized_telescope.specs.later.ProofList.{joinedData, endsFrom, marksOf, indexesOf, chosen, placeOut, ProofList}
-use Rattle.centralized_telescope.specs.later.ProofList.{listOver}
+use Rattle.centralized_telescope.specs.later.ProofList.{listOver, proofListed}
 use Rattle.centralized_telescope.specs.later.ProofList.{writeRefusal, proofList, listOf, overAll, frontOf, withBuffers}
 use Rattle.centralized_telescope.specs.inner.ListReading.{dataOf}
 
@@ -168,8 +168,8 @@ module _ (places : List ℕ) (lent : Lent) (buffers : Lent) where
     unfolding writeRefusal
     refusals =
         let l = number-none _ _ (number-refusal W) in
-        let f = number-none _ _ (l .1) in
-        let p = number-none _ _ (f .1) in
+        let p = number-none _ _ (l .1) in
+        let f = number-none _ _ (p .1) in
         let few = ltb-false maxElements (length places) (unsaid (ltb maxElements (length places)) 4 (f .0)) in
         (l .0, few, unsaid (placeOut (length n) places) 3 (p .0))
 
@@ -189,3 +189,6 @@ module _ (places : List ℕ) (lent : Lent) (buffers : Lent) where
 
     pub written-elements : elements own ≡ map (elementAt (elements lent)) places
     written-elements = ap elements own-is ∙ elements-again es
+
+pub proof-listed : proofListed
+proof-listed places lent buffers W = (written-accepted places lent buffers W, written-elements places lent buffers W)

@@ -13,7 +13,7 @@ use Rattle.centralized_telescope.specs.core.Params.{notOneTo, maxSetSize
 use Rattle.centralized_telescope.specs.laws.TestLaws.{neither, lt-or-le, not-both}
 use Rattle.centralized_telescope.specs.laws.ParamsLaws.{one-to}
 use Rattle.centralized_telescope.specs.later.ProofSize.{Meets, figuresOut, Smallest, NoSize, SizeIs, InRange, NoLess, sizeNeverFalls}
-use Rattle.centralized_telescope.specs.later.ProofSize.{sizeNeverRises, maxSoundness, maxFigure}
+use Rattle.centralized_telescope.specs.later.ProofSize.{sizeNeverRises, sizeOneAnswer, maxSoundness, maxFigure}
 use Rattle.centralized_telescope.specs.laws.DigitsLaws.{base, power-more}
 use Rattle.centralized_telescope.specs.inner.Digits.{NotAbove, SmallestOrNone}
 
@@ -166,3 +166,41 @@ never-falls s c n f s′ c′ f′ I hs hc hf = no-less s c n f s′ c′ n f′
 
 pub never-rises : sizeNeverRises
 never-rises s c n f n′ I h number u number′ u′ a b = no-less s c n′ f s c n f I (λ v m. meets-more s c n f n′ v h m) number′ u′ number u b a
+
+-- ---- one answer
+
+smallest-same : (s c n f u u′ : ℕ) → Smallest s c n f u → Smallest s c n f u′ → u ≡ u′
+smallest-same s c n f u u′ a b = elim (lt-or-le u u′) [
+  | inl l ↦ absurd (b .none-below u (a .from) l (a .meets))
+  | inr l ↦ elim (lt-or-le u′ u) [
+    | inl m ↦ absurd (a .none-below u′ (b .from) m (b .meets))
+    | inr m ↦ omega arith
+  ]
+]
+
+pub one-answer : sizeOneAnswer
+one-answer s c n f number u number′ u′ a b = elim a [
+  | inl a ↦ elim b [
+    | inl b ↦ (a .0 ∙ sym (b .0), a .1 ∙ sym (b .1))
+    | inr b ↦ elim b [
+      | inl b ↦ absurd (not-both (a .2) (b .2))
+      | inr b ↦ absurd (not-both (a .2) (b .1))
+    ]
+  ]
+  | inr a ↦ elim a [
+    | inl a ↦ elim b [
+      | inl b ↦ absurd (not-both (b .2) (a .2))
+      | inr b ↦ elim b [
+        | inl b ↦ (a .0 ∙ sym (b .0), a .1 ∙ sym (b .1))
+        | inr b ↦ absurd (a .3 u′ (b .2 .from) (b .2 .upto) (b .2 .meets))
+      ]
+    ]
+    | inr a ↦ elim b [
+      | inl b ↦ absurd (not-both (b .2) (a .1))
+      | inr b ↦ elim b [
+        | inl b ↦ absurd (b .3 u (a .2 .from) (a .2 .upto) (a .2 .meets))
+        | inr b ↦ (a .0 ∙ sym (b .0), smallest-same s c n f u u′ (a .2) (b .2))
+      ]
+    ]
+  ]
+]

@@ -2,7 +2,7 @@
 use mathlib.Core.Path.{_≡_, refl, sym, subst}
 use mathlib.Core.Bool.{Bool, true, false, not, cond, _&&_}
 use mathlib.Core.Logic.{inl, inr}
-use Prim.Native.Nat.{ℕ, _+_, _-_, _*_, _/_, _%_, _^_, _≤_, _<_}
+use Prim.Native.Nat.{ℕ, _+_, _*_, _/_, _%_, _^_, _≤_, _<_}
 use native.Mathlib.Nat.{mul-comm, mul-pos, mul-le-mul-right, div-le-of-le-mul, div-add-mod', le-trans, eq-zero-or-pos, eq-or-lt-of-le}
 use native.Mathlib.Omega.{arith}
 use borrow.Author.Tests.{ltb-false, le-ltb, eqb-false}
@@ -19,7 +19,8 @@ use Rattle.centralized_telescope.specs.later.SmallCase.{dfsBound, smallS
 use Rattle.centralized_telescope.specs.later.SmallCase.{smallCaseRefusal, smallCase}
 use Rattle.centralized_telescope.specs.later.SmallCase.{maxCompleteness}
 use Rattle.centralized_telescope.specs.laws.TestLaws.{neither, eachUpTo, from-computed}
-use Rattle.centralized_telescope.specs.laws.ParamsLaws.{one-to, Limits, passes}
+use Rattle.centralized_telescope.specs.laws.ParamsLaws.{one-to, passes}
+use Rattle.centralized_telescope.specs.later.VerdictExactly.{Limits}
 
 -- ---- the small case, by its tests in the table's order
 

@@ -1,11 +1,12 @@
 -- A hasher as a value: what each of its three calls makes of it, for every hasher and every string.
+use mathlib.Core.Path.{_≡_}
 use mathlib.Core.Bool.{Bool, cond}
-use mathlib.Core.List.{List, [], _∷_}
+use mathlib.Core.List.{List, [], _∷_, _++_}
 use Prim.Native.Nat.{ℕ, _+_, _%_}
 use lib.Dec.{eqb, leb}
 use lib.ListN.{length, set, replicate}
 use Rattle.sampling.specs.core.Fips180.{H₀, block, compressed, padding, digestOf}
-use Rattle.sampling.specs.core.Hash.{maxHashed}
+use Rattle.sampling.specs.core.Hash.{maxHashed, hashed}
 use Rattle.sampling.specs.declared.sha256.Hasher.{Hasher}
 
 -- FIPS 180-4, 5.3.3: no byte absorbed
@@ -40,3 +41,19 @@ absorbed h s = cond (leb (h .len + length s) maxHashed) (absorbBytes h s) tooLon
 -- document 01, Hash: 0 with the digest, the padding (FIPS 180-4, 5.1.1) absorbed like any bytes; or 9, over 2^29 bytes, with zeros
 unfoldable pub finished : Hasher → ℕ × List ℕ
 finished h = cond (leb (h .len) maxHashed) (0, digestOf (absorbBytes h (padding (h .len)) .state)) (9, replicate 32 0)
+
+-- ---- what the three calls give together
+
+-- strings absorbed one after the other
+unfoldable pub absorbedAll : Hasher → List (List ℕ) → Hasher
+absorbedAll h [] = h
+absorbedAll h (s ∷ ss) = absorbedAll (absorbed h s) ss
+
+-- the strings as one
+unfoldable pub allStrings : List (List ℕ) → List ℕ
+allStrings [] = []
+allStrings (s ∷ ss) = s ++ allStrings ss
+
+-- from a new hasher on, `finish` gives the hash of all that was absorbed
+abbrev pub hasherHashes : Type 0
+hasherHashes = (strings : List (List ℕ)) → finished (absorbedAll newHasher strings) ≡ hashed (allStrings strings)

@@ -1,8 +1,8 @@
 -- Laws of a hasher. For a caller that hashes strings one after the other, `absorbed-none`, `absorbed-twice` and `absorbed-hashes` suffice,
 -- with no definition opened; the others are for the hasher's own functions.
-use mathlib.Core.Path.{_≡_, refl, _∙_}
+use mathlib.Core.Path.{_≡_, refl, sym, ap, _∙_}
 use mathlib.Core.Bool.{Bool, true, false, cond}
-use mathlib.Core.List.{List, [], _∷_, _++_, append-nil}
+use mathlib.Core.List.{List, [], _∷_, _++_, append-nil, append-assoc}
 use Prim.Native.Nat.{ℕ, zero, suc, _+_, _-_, _*_, _/_, _%_, _^_, _≤_, _<_}
 use native.Mathlib.Decide.{decLe}
 use native.Mathlib.Nat.{add-zero}
@@ -15,7 +15,8 @@ use Rattle.sampling.specs.core.Fips180.{words, block, compressed, hashVa
 use Rattle.sampling.specs.core.Hash.{hashed}
 use Rattle.sampling.specs.laws.HashLaws.{padding-size, padded-whole, from-first, hashed-within, hashed-over}
 use Rattle.sampling.specs.inner.LastBlocksInner.{hashValueFrom}
-use Rattle.sampling.specs.later.Hasher.{newHasher, absorbByte, absorbBytes, tooLong, absorbed, finished}
+use Rattle.sampling.specs.later.Hasher.{newHasher, absorbByte, absorbBytes, tooLong, absorbed, finished, absorbedAll}
+use Rattle.sampling.specs.later.Hasher.{allStrings, hasherHashes}
 use Rattle.sampling.specs.declared.sha256.Hasher.{Hasher}
 
 -- ---- bytes, one after the other
@@ -253,3 +254,17 @@ absorbed-hashes m = go (decLe (length m) (2 ^ 29))
           hashed-within m p,
         )
     go (no p) = rw (absorbed-over newHasher m (omega arith), finished-over tooLong (omega arith), hashed-over m (omega arith))
+
+-- ---- strings one after the other
+
+absorbed-each : (h : Hasher) (m : List ℕ) (ss : List (List ℕ)) → absorbedAll (absorbed h m) ss ≡ absorbed h (m ++ allStrings ss)
+unfolding absorbedAll allStrings
+absorbed-each h m [] = ap (absorbed h) (sym (append-nil m))
+absorbed-each h m (s ∷ ss) =
+    ap (λ (g : Hasher). absorbedAll g ss) (absorbed-twice h m s) ∙ absorbed-each h (m ++ s) ss
+    ∙ ap (absorbed h) (append-assoc m s (allStrings ss))
+
+pub hasher-hashes : hasherHashes
+hasher-hashes ss =
+    ap (λ (g : Hasher). finished (absorbedAll g ss)) (sym absorbed-none) ∙ ap finished (absorbed-each newHasher [] ss)
+    ∙ absorbed-hashes (allStrings ss)

@@ -97,22 +97,18 @@ part-own-start c = fits c .0
 part-own-end : tie.Need-part-own-end Inv-loop μ-loop
 part-own-end c = fits c .1
 
-shared-slice-read-t21 : tie.Need-shared-slice-read-t21 Inv-loop μ-loop
-shared-slice-read-t21 c = omega (arith, c .before .before .before .before .before .before .loop-test .taken)
-
 index-at-requires : tie.Need-index-at-requires Inv-loop μ-loop
 index-at-requires c κs =
-    let l = c .before .before .before .before .before .before .before in
+    let l = c .before .before .before .before .before .before in
     let a = entry l .args in
-    omega (
-      arith,
-      index-within-bytes (a .«data» .now) (a .ends .now) (a .marks .now) (a .indexes .now) (entry l .pre) (l .loop .i)
-          (c .before .before .before .before .before .before .loop-test .taken),
+    let taken = c .before .before .before .before .before .loop-test .taken in (
+      taken,
+      index-within-bytes (a .«data» .now) (a .ends .now) (a .marks .now) (a .indexes .now) (entry l .pre) (l .loop .i) taken,
     )
 
 next-round-requires : tie.Need-next-round-requires Inv-loop μ-loop
 next-round-requires c κs =
-    let w = c .before .before .before in
+    let w = c .before .before in
     let l = w .before .before .before .before .before in
     let a = entry l .args in
     own-few (a .«data» .now) (a .ends .now) (a .marks .now) (a .indexes .now) (entry l .pre) (l .loop .i)
@@ -120,20 +116,20 @@ next-round-requires c κs =
 
 add-i : tie.Need-add-i Inv-loop μ-loop
 add-i c =
-    let t = c .before .before .before .before .before .before .before .before in
+    let t = c .before .before .before .before .before .before .before in
     omega (arith, t .loop-test .taken, entry (t .before) .good .1 .1 .1 .1 .1 .0 .0)
 
 loop-less : tie.Need-loop-less Inv-loop μ-loop
-loop-less c = omega (arith, c .before .before .before .before .before .before .before .before .loop-test .taken)
+loop-less c = omega (arith, c .before .before .before .before .before .before .before .loop-test .taken)
 
 loop-again : tie.Need-loop-again Inv-loop μ-loop
 loop-again c =
-    let w = c .before .before .before .before in
+    let w = c .before .before .before in
     let t = w .before .before .before .before in
     let l = t .before in
     let a = entry l .args in
     let e = element-read (a .«data» .now) (a .ends .now) (a .marks .now) (a .indexes .now) (entry l .pre) (l .loop .i) (t .loop-test .taken)
-    _ _ (l .loop .inv .1) (end-read w) _ (c .before .index-at .ensures) in (
+    _ _ (l .loop .inv .1) (end-read w) _ _ (c .before .index-at .ensures) in (
       omega (arith, t .loop-test .taken),
       next-start (a .«data» .now) (a .ends .now) (a .marks .now) (a .indexes .now) (entry l .pre) (l .loop .i) (t .loop-test .taken) _ _
           (l .loop .inv .1) (end-read w),
@@ -167,7 +163,6 @@ chain-passes-in-bytes-spec =
     sub-own
     part-own-start
     part-own-end
-    shared-slice-read-t21
     index-at-requires
     next-round-requires
     add-i

@@ -4,7 +4,8 @@ use Prim.Native.Nat.{_+_, _*_, _^_, _≤_}
 use native.Mathlib.Nat.{mul-le-mul}
 use native.Mathlib.Omega.{arith}
 use Rattle.centralized_telescope.specs.later.Plan.{amounts}
-use Rattle.centralized_telescope.specs.laws.ParamsLaws.{Lawful, lawful}
+use Rattle.centralized_telescope.specs.laws.ParamsLaws.{lawful}
+use Rattle.centralized_telescope.specs.later.VerdictExactly.{Lawful}
 use borrow.Author.Needs.{needs}
 use Rattle.centralized_telescope.proofs.planning.amounts_of.Statement.{statement}
 use Rattle.centralized_telescope.proofs.planning.amounts_of.Tie as tie

@@ -33,9 +33,9 @@ refused-at s = s .before .before .before
 
 -- from the question whether a place is out back to where the list is accepted
 abbrev list-passed : tie.After-some-place-out → tie.After-enum-told
-list-passed s = s .before .before
+list-passed s = s .before
 
--- from the question for room back to where no place is out; and from the writing to there
+-- from the question for room back to where the places are few enough; and from the writing to there
 abbrev places-passed : tie.After-some-buffer-short → tie.Else2
 places-passed s = s .before .before .before .before .before
 
@@ -50,9 +50,9 @@ elements-written s = s .before .before .before .before .before .before .before .
 accepted : (s : tie.After-enum-told) → listCheck (lent (begun s)) ≡ 0
 accepted s = sym (s .before .before .check-list .ensures) ∙ ap listCheckBy (s .enum-told .given .1)
 
-within : (s : tie.Else2)
+within : (s : tie.Else1)
     → (let z = begun (list-passed (s .before)) .args in placeOut (length (z .ends .now)) (z .places .now) ≡ false)
-within s = sym (s .before .some-place-out .ensures) ∙ s .if2 .left
+within s = sym (s .before .some-place-out .ensures) ∙ s .if1 .left
 
 -- ---- the needs
 
@@ -72,24 +72,25 @@ returns c =
     let s = entry at in
     list-refused (s .args .places .now) (lent s) (buffers s) (k .0 .0) (sym (at .check-list .ensures) ∙ ap listCheckBy (k .1))
 
-returns-2 : tie.Need-returns-2
-returns-2 c =
-    let s = begun (c .before) in
-    too-many (s .args .places .now) (lent s) (buffers s) (accepted (c .before)) (c .if1 .taken)
-
 some-place-out-requires : tie.Need-some-place-out-requires
 some-place-out-requires c κs = search needs
 
-returns-3 : tie.Need-returns-3
-returns-3 c =
+returns-2 : tie.Need-returns-2
+returns-2 c =
     let at = c .before in
     let s = begun (list-passed at) in
-    place-past (s .args .places .now) (lent s) (buffers s) (accepted (list-passed at)) (at .before .if1 .left)
-    (sym (at .some-place-out .ensures) ∙ c .if2 .taken)
+    place-past (s .args .places .now) (lent s) (buffers s) (accepted (list-passed at)) (sym (at .some-place-out .ensures) ∙ c .if1 .taken)
+
+returns-3 : tie.Need-returns-3
+returns-3 c =
+    let e = c .before in
+    let at = list-passed (e .before) in
+    let s = begun at in
+    too-many (s .args .places .now) (lent s) (buffers s) (accepted at) (within e) (c .if2 .taken)
 
 some-buffer-short-requires : tie.Need-some-buffer-short-requires
 some-buffer-short-requires c κs =
-    let e = c .before .before .before .before in
+    let e = c .before .before .before .before .before in
     (ends-right _ (accepted (list-passed (e .before))), within e)
 
 same-length : tie.Need-same-length
@@ -106,23 +107,25 @@ same-length-4 c = search needs
 
 returns-4 : tie.Need-returns-4
 returns-4 c =
-    let e = places-passed (c .before) in
+    let f = places-passed (c .before) in
+    let e = f .before in
     let at = list-passed (e .before) in
     let s = begun at in
-    too-short (s .args .places .now) (lent s) (buffers s) (accepted at) (e .before .before .if1 .left) (within e) _
+    too-short (s .args .places .now) (lent s) (buffers s) (accepted at) (within e) (f .if2 .left) _
     (c .before .some-buffer-short .ensures) (c .if3 .taken)
 
 write-elements-requires : tie.Need-write-elements-requires
 write-elements-requires c κs =
     let t = room-there c in
-    let e = places-passed (t .before) in
+    let f = places-passed (t .before) in
+    let e = f .before in
     let at = list-passed (e .before) in
     let s = begun at in
-    let few = e .before .before .if1 .left in (
+    let few = f .if2 .left in (
       accepted at,
       few,
       within e,
-      same-size (s .args .places .now) (lent s) (buffers s) (accepted at) few (within e) _ false (t .before .some-buffer-short .ensures)
+      same-size (s .args .places .now) (lent s) (buffers s) (accepted at) (within e) few _ false (t .before .some-buffer-short .ensures)
           (t .if3 .left),
     )
 
@@ -142,10 +145,11 @@ returns-5 : tie.Need-returns-5
 returns-5 c =
     let w = elements-written c in
     let t = room-there (w .before) in
-    let e = places-passed (t .before) in
+    let f = places-passed (t .before) in
+    let e = f .before in
     let at = list-passed (e .before) in
     let s = begun at in
-    all-written (s .args .places .now) (lent s) (buffers s) (accepted at) (e .before .before .if1 .left) (within e) _
+    all-written (s .args .places .now) (lent s) (buffers s) (accepted at) (within e) (f .if2 .left) _
     (t .before .some-buffer-short .ensures) (t .if3 .left) _ (w .write-elements .ensures)
 
 pub write-proof-spec : {M : Type 1} → statement M
@@ -156,8 +160,8 @@ write-proof-spec =
     enum-told
     enum-known-k
     returns
-    returns-2
     some-place-out-requires
+    returns-2
     returns-3
     some-buffer-short-requires
     same-length
