@@ -1011,8 +1011,11 @@ static uint32_t centralized_telescope_errors_refusal_number(struct centralized_t
         l2 = UINT32_C(43);
         break;
     case UINT8_C(12):
-    default:
         l2 = UINT32_C(44);
+        break;
+    case UINT8_C(13):
+    default:
+        l2 = UINT32_C(45);
         break;
     }
     l0 = l2;

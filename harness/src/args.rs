@@ -9,7 +9,7 @@ usage: harness compare [--cases N] [--seed S]
        harness sizes --minutes N | --seconds N | --turns N [--seed S]
        harness model [--functions N] [--seed S]
        harness answers [--seed S]
-       harness bench [--steps | --tickets | --distinctness | --sizes]
+       harness bench [--steps | --tickets | --distinctness | --sizes | --pools]
        harness stack
        harness --help
 
@@ -18,7 +18,8 @@ compare   Runs the verified library and the original Rust on the same inputs and
   --cases N   random inputs for each of the uniform sampler, the Bernoulli sampler by q and by X, the converter and planning, N / 20
               messages to hash, N / 20 of the small case, N / 10 lists for distinctness, N / 10 small searches, N / 20 by X, N / 100 bad
               inputs for each of prover and verifier, N / 50 lists for tickets, each with five changed tickets, N / 1000 with each wrong
-              number of blocks, N / 200 searches with what was planned, and N / 40 security figures (default 2000000)
+              number of blocks, N / 200 searches with what was planned, N / 40 security figures, and N / 400 times two lists pooled
+              (default 2000000)
   --seed S    decimal, or hexadecimal after 0x (default: from the clock; it is printed)
           It ends with a line of counts, or with the first case that differs and status 1.
 
@@ -56,8 +57,9 @@ bench     Prints a Markdown table of speeds: the library, the Rust and OpenSSL, 
   --tickets   the speed of the calls for tickets alone
   --distinctness   the time of the check of distinctness alone
   --sizes     the time of the proof size alone
+  --pools     the time of pooling and of searches over a pool alone
 
-stack     Says how much stack a search of the greatest length takes.
+stack     Says how much stack a search of the greatest length takes, on a list and over a pool of two full lists.
 ";
 
 pub struct Compare {
@@ -93,8 +95,16 @@ pub enum Command {
     /// With this seed.
     Answers(u64),
     Bench(Bench),
-    /// Whole, or the one search of a length, for which the measurement starts itself again.
-    Stack(Option<u64>),
+    /// Whole, or one search, for which the measurement starts itself again.
+    Stack(Option<Deep>),
+}
+
+/// One search whose stack is measured.
+#[derive(Clone, Copy, Debug, PartialEq)]
+pub struct Deep {
+    pub depth: u64,
+    /// Over the pool of two full lists.
+    pub is_pool: bool,
 }
 
 pub enum Bench {
@@ -107,6 +117,8 @@ pub enum Bench {
     Distinctness,
     /// The proof size from security figures.
     Sizes,
+    /// Two lists pooled.
+    Pools,
     /// The rows for one of OpenSSL's other settings, for which the benchmark starts itself again.
     #[cfg_attr(not(feature = "bench"), allow(dead_code))]
     OpenSsl(usize),
@@ -116,8 +128,9 @@ pub enum Bench {
 const STORED: u64 = 0x43_c389_a516;
 /// The word before the setting's number when the benchmark starts itself again.
 pub const AGAIN: &str = "--openssl-setting";
-/// The word before the length of the search when the measurement of the stack starts itself again.
+/// The words before the length of the search when the measurement of the stack starts itself again: on a list, and over a pool.
 pub const SEARCH: &str = "--search";
+pub const POOL_SEARCH: &str = "--pool-search";
 
 pub fn parse(mut words: impl Iterator<Item = String>) -> Result<Command, String> {
     match words.next().as_deref() {
@@ -127,15 +140,22 @@ pub fn parse(mut words: impl Iterator<Item = String>) -> Result<Command, String>
         Some("model") => model(words).map(Command::Model),
         Some("answers") => answers(words).map(Command::Answers),
         Some("bench") => bench(words).map(Command::Bench),
-        Some("stack") => match words.next().as_deref() {
-            None => Ok(Command::Stack(None)),
-            Some(SEARCH) => Ok(Command::Stack(words.next().and_then(|word| word.parse().ok()))),
-            Some(word) => Err(format!("stack has no `{word}`")),
-        },
+        Some("stack") => stack(words).map(Command::Stack),
         Some("--help" | "-h" | "help") => Ok(Command::Help),
         Some(word) => Err(format!("there is no `{word}`")),
         None => Err("say what to do".to_string()),
     }
+}
+
+fn stack(mut words: impl Iterator<Item = String>) -> Result<Option<Deep>, String> {
+    let is_pool = match words.next().as_deref() {
+        None => return Ok(None),
+        Some(SEARCH) => false,
+        Some(POOL_SEARCH) => true,
+        Some(word) => return Err(format!("stack has no `{word}`")),
+    };
+    let depth = words.next().and_then(|word| word.parse().ok()).ok_or("the length of a search is wanted")?;
+    Ok(Some(Deep { depth, is_pool }))
 }
 
 fn bench(mut words: impl Iterator<Item = String>) -> Result<Bench, String> {
@@ -145,6 +165,7 @@ fn bench(mut words: impl Iterator<Item = String>) -> Result<Bench, String> {
         Some("--tickets") => Bench::Tickets,
         Some("--distinctness") => Bench::Distinctness,
         Some("--sizes") => Bench::Sizes,
+        Some("--pools") => Bench::Pools,
         Some(AGAIN) => Bench::OpenSsl(words.next().and_then(|word| word.parse().ok()).ok_or("a setting's number is wanted")?),
         Some(word) => return Err(format!("bench has no `{word}`")),
     };
@@ -272,6 +293,17 @@ mod tests {
         assert_eq!((model("model --seed 3"), model("model --functions 1000 --seed 0x10")), ((20_000, 3), (1000, 16)));
         assert_eq!(why_not("model --functions 999"), "model wants 1000 functions or more");
         assert_eq!(why_not("model --cases 5"), "model has no `--cases`");
+    }
+
+    #[test]
+    fn stack_runs_whole_or_one_search() {
+        let stack = |line| match parsed(line) {
+            Ok(Command::Stack(deep)) => deep,
+            _ => panic!("{line}"),
+        };
+        assert_eq!((stack("stack"), stack("stack --search 3")), (None, Some(Deep { depth: 3, is_pool: false })));
+        assert_eq!(stack("stack --pool-search 1024"), Some(Deep { depth: 1024, is_pool: true }));
+        assert_eq!(why_not("stack --pool-search"), "the length of a search is wanted");
     }
 
     #[test]

@@ -48,6 +48,28 @@ extern "C" {
         out: *mut u64, out_len: usize,
     ) -> u32;
     fn alba_proof_size(s: u64, c: u64, n: u64, f: u64, out: *mut u64, out_len: usize) -> u32;
+    fn alba_pool_size(
+        data: *const u8, data_len: usize, ends: *const u32, ends_len: usize,
+        marks: *const u8, marks_len: usize, indexes: *const u64, indexes_len: usize,
+        data2: *const u8, data2_len: usize, ends2: *const u32, ends2_len: usize,
+        marks2: *const u8, marks2_len: usize, indexes2: *const u64, indexes2_len: usize,
+        out: *mut u64, out_len: usize,
+    ) -> u32;
+    fn alba_pool_data(
+        data: *const u8, data_len: usize, ends: *const u32, ends_len: usize,
+        marks: *const u8, marks_len: usize, indexes: *const u64, indexes_len: usize,
+        data2: *const u8, data2_len: usize, ends2: *const u32, ends2_len: usize,
+        marks2: *const u8, marks2_len: usize, indexes2: *const u64, indexes2_len: usize,
+        place: u64, part: *mut u8, part_len: usize, out: *mut u64, out_len: usize,
+    ) -> u32;
+    fn alba_prove_pool(
+        set_size: u64, proof_size: u64, max_retries: u64, search_width: u64, dfs_bound: u64, x_high: u64, x_low: u64,
+        data: *const u8, data_len: usize, ends: *const u32, ends_len: usize,
+        marks: *const u8, marks_len: usize, indexes: *const u64, indexes_len: usize,
+        data2: *const u8, data2_len: usize, ends2: *const u32, ends2_len: usize,
+        marks2: *const u8, marks2_len: usize, indexes2: *const u64, indexes2_len: usize,
+        places: *mut u32, places_len: usize, table: *mut u32, table_len: usize, out: *mut u64, out_len: usize,
+    ) -> u32;
 }
 
 /// set_size is out of range.
@@ -98,6 +120,8 @@ pub const BUFFER_SHORT: u32 = 42;
 pub const BAD_FIGURES: u32 = 43;
 /// No proof size up to 1,024 meets the security figures.
 pub const NO_SIZE: u32 = 44;
+/// Two lists pooled have too many elements.
+pub const POOL_TOO_LARGE: u32 = 45;
 /// The most bytes that the four strings of a hash may have together.
 pub const LONGEST: usize = 1 << 29;
 
@@ -297,4 +321,72 @@ pub fn proof_size(figures: &Figures, out: &mut (impl Place<u64> + ?Sized)) -> u3
     let ((out, out_len), Figures { s, c, n, f }) = (out.parts(), *figures);
     // SAFETY: the pointer is valid for reads and writes of its length.
     unsafe { alba_proof_size(s, c, n, f, out, out_len) }
+}
+
+/// 0, or the number of the refusal. If `out` has a number or more, the first takes the pool's size (0 with a refusal).
+#[rustfmt::skip]
+pub fn pool_size(first: Listed<u32, u64>, second: Listed<u32, u64>, out: &mut (impl Place<u64> + ?Sized)) -> u32 {
+    let ((data, data_len), (ends, ends_len)) = (parts(first.data), parts(first.ends));
+    let ((marks, marks_len), (indexes, indexes_len)) = (parts(first.marks), parts(first.indexes));
+    let ((data2, data2_len), (ends2, ends2_len)) = (parts(second.data), parts(second.ends));
+    let ((marks2, marks2_len), (indexes2, indexes2_len)) = (parts(second.marks), parts(second.indexes));
+    let (out, out_len) = out.parts();
+    // SAFETY: each pointer is valid for its length, those of the lists for reads and out for reads and writes.
+    unsafe {
+        alba_pool_size(
+            data, data_len, ends, ends_len, marks, marks_len, indexes, indexes_len,
+            data2, data2_len, ends2, ends2_len, marks2, marks2_len, indexes2, indexes2_len, out, out_len,
+        )
+    }
+}
+
+/// 0 with the data of the pool's element in the first bytes of `part`, and, if `out` has a number or more, their number in the first; or
+/// `BUFFER_SHORT` with nothing written. Past the pool, and of lists or a pool that are refused, there are no data: 0 bytes.
+#[rustfmt::skip]
+pub fn pool_data(
+    first: Listed<u32, u64>,
+    second: Listed<u32, u64>,
+    place: u64,
+    part: &mut (impl Place + ?Sized),
+    out: &mut (impl Place<u64> + ?Sized),
+) -> u32 {
+    let ((data, data_len), (ends, ends_len)) = (parts(first.data), parts(first.ends));
+    let ((marks, marks_len), (indexes, indexes_len)) = (parts(first.marks), parts(first.indexes));
+    let ((data2, data2_len), (ends2, ends2_len)) = (parts(second.data), parts(second.ends));
+    let ((marks2, marks2_len), (indexes2, indexes2_len)) = (parts(second.marks), parts(second.indexes));
+    let ((part, part_len), (out, out_len)) = (part.parts(), out.parts());
+    // SAFETY: each pointer is valid for its length, those of the lists for reads and the last two for reads and writes.
+    unsafe {
+        alba_pool_data(
+            data, data_len, ends, ends_len, marks, marks_len, indexes, indexes_len,
+            data2, data2_len, ends2, ends2_len, marks2, marks2_len, indexes2, indexes2_len, place, part, part_len, out, out_len,
+        )
+    }
+}
+
+/// As `prove`, over the pool of two lists.
+#[rustfmt::skip]
+pub fn prove_pool(
+    s: &Settings,
+    first: Listed<u32, u64>,
+    second: Listed<u32, u64>,
+    places: &mut (impl Place<u32> + ?Sized),
+    table: &mut (impl Place<u32> + ?Sized),
+    out: &mut (impl Place<u64> + ?Sized),
+) -> u32 {
+    let ((data, data_len), (ends, ends_len)) = (parts(first.data), parts(first.ends));
+    let ((marks, marks_len), (indexes, indexes_len)) = (parts(first.marks), parts(first.indexes));
+    let ((data2, data2_len), (ends2, ends2_len)) = (parts(second.data), parts(second.ends));
+    let ((marks2, marks2_len), (indexes2, indexes2_len)) = (parts(second.marks), parts(second.indexes));
+    let ((places, places_len), (table, table_len), (out, out_len)) = (places.parts(), table.parts(), out.parts());
+    let [x_high, x_low] = threshold::halves(s.x.x());
+    // SAFETY: each pointer is valid for its length, those of the lists for reads and the last three for reads and writes.
+    unsafe {
+        alba_prove_pool(
+            s.set_size, s.proof_size, s.max_retries, s.search_width, s.dfs_bound, x_high, x_low,
+            data, data_len, ends, ends_len, marks, marks_len, indexes, indexes_len,
+            data2, data2_len, ends2, ends2_len, marks2, marks2_len, indexes2, indexes2_len,
+            places, places_len, table, table_len, out, out_len,
+        )
+    }
 }

@@ -54,7 +54,7 @@ module _ (lent : Lent) (A : listCheck lent ≡ 0) (k : ℕ) where
       let within : place < length n = omega (arith, l, length-take k (elements lent), length-elements lent A) in
       each-cons Short _ _ (bytes-short lent A place within) (all-short ps r)
 
-list-of : (es : List Element) → length es ≤ 65536 → Each Short es → Listed es
+pub list-of : (es : List Element) → length es ≤ 65536 → Each Short es → Listed es
 list-of es few short = record {
   lent = lentOf (joinedData es) (endsFrom 0 es) (marksOf es) (indexesOf es);
   accepted = accepted-again es few short;

@@ -48,6 +48,12 @@ mod Comparing
 -- sort.rt
 mod Merging
 mod Halves
+-- pool.rt
+mod Sought
+mod AddedPlaces
+mod PoolAnswers
+-- theorems.rt
+mod PoolHolds
 -- sort.rt, misc.rt, theorems.rt
 mod DistinctAnswers
 -- proof.rt

@@ -52,6 +52,23 @@ module _ (p : Params) (count places table : ℕ) where
       pub none-met : p .«set_size» ≤ count → last ≡ 0
       none-met f = after-six ∙ rw (le-ltb count (p .«set_size») f)
 
+  -- nothing is too short or too few
+  pub record Roomy : Type 0 where
+    pub at-least : p .«set_size» ≤ count
+    pub places-enough : p .«proof_size» ≤ places
+    pub table-enough : 3 * p .«set_size» + 1 ≤ table
+
+  pub roomy : last ≡ 0 → Roomy
+  roomy e =
+      let w = number-none _ _ e in
+      let f = number-none _ _ (w .1) in
+      let room = neither (ltb places (p .«proof_size»)) (unsaid (workspaceShort p places table) 5 (w .0)) in
+      record {
+        at-least = ltb-false count (p .«set_size») (unsaid (ltb count (p .«set_size»)) 9 (f .0));
+        places-enough = ltb-false places (p .«proof_size») (room .0);
+        table-enough = ltb-false table (3 * p .«set_size» + 1) (room .1);
+      }
+
 -- ---- all refusals, with so many places and bin-table numbers lent
 
 module _ (p : Params) (lent : Lent) (places table : ℕ) where
@@ -108,15 +125,13 @@ module _ (p : Params) (lent : Lent) (places table : List ℕ) where
   run-lawful e =
       let s = number-none _ _ e in
       let l = number-none _ _ (s .1) in
-      let w = number-none _ _ (l .1) in
-      let f = number-none _ _ (w .1) in
-      let room = neither (ltb (length places) (p .«proof_size»)) (unsaid (workspaceShort p (length places) (length table)) 5 (w .0)) in
+      let room = roomy p (length ends) (length places) (length table) (l .1) in
       record {
         settings = s .0;
         list = l .0;
-        at-least = ltb-false (length ends) (p .«set_size») (unsaid (ltb (length ends) (p .«set_size»)) 9 (f .0));
-        places-enough = ltb-false (length places) (p .«proof_size») (room .0);
-        table-enough = ltb-false (length table) (3 * p .«set_size» + 1) (room .1);
+        at-least = room .at-least;
+        places-enough = room .places-enough;
+        table-enough = room .table-enough;
       }
 
   -- and each such run is served

@@ -9,5 +9,6 @@ pub mod Walk
 pub mod Visit
 pub mod Ordering
 pub mod Sorting
+pub mod Pooling
 pub mod TicketReading
 pub mod Digits

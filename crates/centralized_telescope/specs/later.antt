@@ -4,6 +4,7 @@ pub mod VerdictExactly
 pub mod Words
 pub mod SmallCase
 pub mod Distinct
+pub mod Pool
 pub mod ProofList
 pub mod ElementBytes
 pub mod Blocks
@@ -13,4 +14,5 @@ pub mod FirstLayout
 pub mod Plan
 pub mod PlanClaims
 pub mod ProofSize
+pub mod PoolClaims
 pub mod AllCases

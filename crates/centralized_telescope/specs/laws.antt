@@ -9,6 +9,7 @@ pub mod SourceLaws
 pub mod DistinctLaws
 pub mod OrderingLaws
 pub mod SortingLaws
+pub mod PoolLaws
 pub mod RoundsLaws
 pub mod BinsLaws
 pub mod OrderLaws

@@ -31,6 +31,8 @@ pub enum Refusal {
     Figures,
     // no proof size up to its limit is enough for the security figures
     NoSize,
+    // a pool of more elements than a list may have
+    PoolTooLarge,
 }
 
 // The number of a refusal.
@@ -51,5 +53,6 @@ pub fn refusal_number(k: Refusal) -> u32
         Refusal::BufferShort => 42,
         Refusal::Figures => 43,
         Refusal::NoSize => 44,
+        Refusal::PoolTooLarge => 45,
     }
 }

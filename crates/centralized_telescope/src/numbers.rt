@@ -13,6 +13,13 @@ pub fn wide(x: u32) -> usize
     x as usize
 }
 
+// A place of a list as a `usize`.
+pub fn wide_place(x: u16) -> usize
+    ensures { λ r. ⌜ r ≡ x ⌝ }
+{
+    x as usize
+}
+
 // The lower of two numbers.
 pub fn least(a: usize, b: usize) -> usize
     ensures { λ r. ⌜ r ≡ min a b ⌝ }

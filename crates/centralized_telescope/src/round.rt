@@ -10,10 +10,10 @@ ghost use Rattle.centralized_telescope.specs.core.Rounds.{startHash, nex
 ghost use Rattle.centralized_telescope.specs.inner.ListReading.{elementOf};
 ghost use Rattle.centralized_telescope.specs.inner.Source.{sourceNow, sourceAtEntry, meant, CanRead};
 ghost use Rattle.centralized_telescope.specs.inner.RoundAnswers.{idOption};
+use crate::source::own_data;
+use crate::source::own_index;
 use crate::types::Index;
-use crate::types::data_of;
 use crate::types::index_bytes;
-use crate::types::index_of;
 use sampling::Draw;
 use sampling::U128;
 use sampling::eight_bytes;
@@ -77,19 +77,48 @@ pub fn hash_after(h: [u8; 32], own: &[u8], index: Index) -> [u8; 32]
 }
 
 // The same by the element at a place of the source.
-pub fn next_hash(
+pub fn next_hash<'a>(
     h: [u8; 32],
-    data: &[u8],
+    data: &'a [u8],
     ends: &[u32],
     marks: &[u8],
     indexes: &[u64],
+    data2: &'a [u8],
+    ends2: &[u32],
+    marks2: &[u8],
+    indexes2: &[u64],
+    added: &[u16],
     place: usize,
 ) -> [u8; 32]
-    requires { ⌜ CanRead (sourceNow «data» ends marks indexes) place ⌝ }
-    ensures { λ r. ⌜ r ≡ nextHash h (elementAt (meant (sourceAtEntry «data» ends marks indexes)) place) ⌝ }
+    requires { ⌜ CanRead (sourceNow «data» ends marks indexes data2 ends2 marks2 indexes2 added) place ⌝ }
+    ensures { λ r. ⌜ r ≡ nextHash h (elementAt (meant (sourceAtEntry «data» ends marks indexes data2 ends2 marks2 indexes2 added)) place)
+        ⌝ }
 {
-    let own = data_of(data, ends, place);
-    hash_after(h, own, index_of(marks, indexes, place))
+    let own = own_data(
+        data,
+        ends,
+        marks,
+        indexes,
+        data2,
+        ends2,
+        marks2,
+        indexes2,
+        added,
+        place,
+    );
+    let index = own_index(
+        data,
+        ends,
+        marks,
+        indexes,
+        data2,
+        ends2,
+        marks2,
+        indexes2,
+        added,
+        place,
+    );
+    hash_after(h, own, index)
 }
 
 // The first 16 bytes of a digest: what is sampled.
@@ -142,20 +171,49 @@ pub fn bin_of(retry: RetryCounter, own: &[u8], index: Index, n: u64) -> Id
 }
 
 // The same of the element at a place of the source.
-pub fn bin_hash(
+pub fn bin_hash<'a>(
     retry: RetryCounter,
-    data: &[u8],
+    data: &'a [u8],
     ends: &[u32],
     marks: &[u8],
     indexes: &[u64],
+    data2: &'a [u8],
+    ends2: &[u32],
+    marks2: &[u8],
+    indexes2: &[u64],
+    added: &[u16],
     place: usize,
     n: u64,
 ) -> Id
-    requires { ⌜ CanRead (sourceNow «data» ends marks indexes) place ⌝ }
-    ensures { λ r. ⌜ idOption r ≡ binOf n (retry .0) (elementAt (meant (sourceAtEntry «data» ends marks indexes)) place) ⌝ }
+    requires { ⌜ CanRead (sourceNow «data» ends marks indexes data2 ends2 marks2 indexes2 added) place ⌝ }
+    ensures { λ r. ⌜ idOption r ≡ binOf n (retry .0) (elementAt (meant (sourceAtEntry «data» ends marks indexes data2 ends2 marks2
+        indexes2 added)) place) ⌝ }
 {
-    let own = data_of(data, ends, place);
-    bin_of(retry, own, index_of(marks, indexes, place), n)
+    let own = own_data(
+        data,
+        ends,
+        marks,
+        indexes,
+        data2,
+        ends2,
+        marks2,
+        indexes2,
+        added,
+        place,
+    );
+    let index = own_index(
+        data,
+        ends,
+        marks,
+        indexes,
+        data2,
+        ends2,
+        marks2,
+        indexes2,
+        added,
+        place,
+    );
+    bin_of(retry, own, index, n)
 }
 
 // Whether a chain of full length with the last hash h passes.

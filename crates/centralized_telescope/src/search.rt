@@ -52,14 +52,19 @@ fn write_places(path: [u32; PATH], n: usize, places: &mut [u32])
 }
 
 // A chain that exists, by its last round: at full length it passes or doesn't, before that its bin is walked.
-fn visit(
+fn visit<'a>(
     p: Params,
     retry: RetryCounter,
     search: SearchCounter,
-    data: &[u8],
+    data: &'a [u8],
     ends: &[u32],
     marks: &[u8],
     indexes: &[u64],
+    data2: &'a [u8],
+    ends2: &[u32],
+    marks2: &[u8],
+    indexes2: &[u64],
+    added: &[u16],
     table: &[u32],
     h: [u8; 32],
     id: u64,
@@ -68,8 +73,10 @@ fn visit(
     steps: u64,
     places: &mut [u32],
 ) -> Outcome
-    requires { ⌜ CanVisit p (sourceNow «data» ends marks indexes) (retry .0) (now table) (length (now places)) id depth steps ⌝ }
-    ensures { λ r. ⌜ VisitEnds p depth (visited (tryOn p (sourceAtEntry «data» ends marks indexes) (retry .0)) (search .0) h id
+    requires { ⌜ CanVisit p (sourceNow «data» ends marks indexes data2 ends2 marks2 indexes2 added) (retry .0) (now table) (length (now
+        places)) id depth steps ⌝ }
+    ensures { λ r. ⌜ VisitEnds p depth (visited (tryOn p (sourceAtEntry «data» ends marks indexes data2 ends2 marks2 indexes2 added)
+        (retry .0)) (search .0) h id
         (take depth path) depth steps) r (now (places .entry)) (now (places .exit)) ⌝ }
 {
     if depth < p.proof_size as usize {
@@ -82,6 +89,11 @@ fn visit(
             ends,
             marks,
             indexes,
+            data2,
+            ends2,
+            marks2,
+            indexes2,
+            added,
             table,
             h,
             path,
@@ -100,14 +112,19 @@ fn visit(
 
 // The extensions of a chain by the places from one index of the table up to another: each that exists is visited. The places found are
 // written here, where the path is whole, and not by the visit: that keeps one path to a level of the stack.
-fn walk(
+fn walk<'a>(
     p: Params,
     retry: RetryCounter,
     search: SearchCounter,
-    data: &[u8],
+    data: &'a [u8],
     ends: &[u32],
     marks: &[u8],
     indexes: &[u64],
+    data2: &'a [u8],
+    ends2: &[u32],
+    marks2: &[u8],
+    indexes2: &[u64],
+    added: &[u16],
     table: &[u32],
     h: [u8; 32],
     path: [u32; PATH],
@@ -117,8 +134,10 @@ fn walk(
     steps: u64,
     places: &mut [u32],
 ) -> Outcome
-    requires { ⌜ CanWalk p (sourceNow «data» ends marks indexes) (retry .0) (now table) (length (now places)) from to depth steps ⌝ }
-    ensures { λ r. ⌜ WalkEnds (walked (tryOn p (sourceAtEntry «data» ends marks indexes) (retry .0)) (search .0) h (take depth path) depth
+    requires { ⌜ CanWalk p (sourceNow «data» ends marks indexes data2 ends2 marks2 indexes2 added) (retry .0) (now table) (length (now
+        places)) from to depth steps ⌝ }
+    ensures { λ r. ⌜ WalkEnds (walked (tryOn p (sourceAtEntry «data» ends marks indexes data2 ends2 marks2 indexes2 added) (retry .0))
+        (search .0) h (take depth path) depth
         (slice from to (now (table .entry))) steps) r (now (places .entry)) (now (places .exit)) ⌝ }
 {
     let size = p.proof_size as usize;
@@ -130,7 +149,19 @@ fn walk(
             return Outcome::Missing(count);
         }
         let place = table[i];
-        let g = next_hash(h, data, ends, marks, indexes, wide(place));
+        let g = next_hash(
+            h,
+            data,
+            ends,
+            marks,
+            indexes,
+            data2,
+            ends2,
+            marks2,
+            indexes2,
+            added,
+            wide(place),
+        );
         let drawn = round_id(g, p.set_size);
         match drawn {
             Id::At(id) => {
@@ -143,6 +174,11 @@ fn walk(
                     ends,
                     marks,
                     indexes,
+                    data2,
+                    ends2,
+                    marks2,
+                    indexes2,
+                    added,
                     table,
                     g,
                     id,
@@ -171,18 +207,25 @@ fn walk(
 }
 
 // One try: its chains, search counter by search counter, over the bin table of its retry counter.
-fn prove_index(
+fn prove_index<'a>(
     p: Params,
     retry: RetryCounter,
-    data: &[u8],
+    data: &'a [u8],
     ends: &[u32],
     marks: &[u8],
     indexes: &[u64],
+    data2: &'a [u8],
+    ends2: &[u32],
+    marks2: &[u8],
+    indexes2: &[u64],
+    added: &[u16],
     table: &[u32],
     places: &mut [u32],
 ) -> Attempt
-    requires { ⌜ Ready p (sourceNow «data» ends marks indexes) (retry .0) (now table) (length (now places)) ⌝ }
-    ensures { λ r. ⌜ TryEnds (tried (tryOn p (sourceAtEntry «data» ends marks indexes) (retry .0)) (p .«search_width») 0 0) r
+    requires { ⌜ Ready p (sourceNow «data» ends marks indexes data2 ends2 marks2 indexes2 added) (retry .0) (now table) (length (now
+        places)) ⌝ }
+    ensures { λ r. ⌜ TryEnds (tried (tryOn p (sourceAtEntry «data» ends marks indexes data2 ends2 marks2 indexes2 added) (retry .0)) (p
+        .«search_width») 0 0) r
         (now (places .entry)) (now (places .exit)) ⌝ }
 {
     let mut count: u64 = 0;
@@ -204,6 +247,11 @@ fn prove_index(
                     ends,
                     marks,
                     indexes,
+                    data2,
+                    ends2,
+                    marks2,
+                    indexes2,
+                    added,
                     table,
                     h,
                     id,
@@ -250,19 +298,26 @@ pub fn proof_search_number(answer: ProofSearch) -> u32
 }
 
 // The tries, R from 1 to max_retries, up to the first find.
-pub fn prove_routine(
+pub fn prove_routine<'a>(
     p: Params,
-    data: &[u8],
+    data: &'a [u8],
     ends: &[u32],
     marks: &[u8],
     indexes: &[u64],
+    data2: &'a [u8],
+    ends2: &[u32],
+    marks2: &[u8],
+    indexes2: &[u64],
+    added: &[u16],
     places: &mut [u32],
     table: &mut [u32],
 ) -> ProofSearch
-    requires { ⌜ (checked p ≡ 0) × Readable (sourceNow «data» ends marks indexes) × (p .«proof_size» ≤ length (now places))
+    requires { ⌜ (checked p ≡ 0) × Readable (sourceNow «data» ends marks indexes data2 ends2 marks2 indexes2 added) × (p .«proof_size» ≤
+        length (now places))
         × (3 * p .«set_size» + 1 ≤ length (now table)) ⌝ }
     ensures { λ r. ⌜ provedBy r (now (places .exit)) (now (table .exit))
-        ≡ bySearch p (meant (sourceAtEntry «data» ends marks indexes)) (now (places .entry)) (now (table .entry)) ⌝ }
+        ≡ bySearch p (meant (sourceAtEntry «data» ends marks indexes data2 ends2 marks2 indexes2 added)) (now (places .entry)) (now (table
+        .entry)) ⌝ }
 {
     let mut steps: u64 = 0;
     let mut r: u64 = 0;
@@ -275,10 +330,29 @@ pub fn prove_routine(
             ends,
             marks,
             indexes,
+            data2,
+            ends2,
+            marks2,
+            indexes2,
+            added,
             p.set_size as usize,
             table,
         );
-        let one = prove_index(p, retry, data, ends, marks, indexes, table, places);
+        let one = prove_index(
+            p,
+            retry,
+            data,
+            ends,
+            marks,
+            indexes,
+            data2,
+            ends2,
+            marks2,
+            indexes2,
+            added,
+            table,
+            places,
+        );
         match one {
             Attempt::Found(search, c) => {
                 return ProofSearch::Found(retry, search, steps + c);

@@ -97,7 +97,21 @@ pub fn prove(
             return ProofSearch::Refused(k);
         }
     }
-    prove_routine(p, data, ends, marks, indexes, places, table)
+    let none = [0u16; 0];
+    prove_routine(
+        p,
+        data,
+        ends,
+        marks,
+        indexes,
+        data,
+        ends,
+        marks,
+        indexes,
+        &none,
+        places,
+        table,
+    )
 }
 
 // ---- The verifier

@@ -5,6 +5,7 @@ ghost use Rattle.centralized_telescope.specs.core.Demand3.{demand3, serv
 ghost use Rattle.centralized_telescope.specs.later.FoundExample.{foundExample};
 ghost use Rattle.centralized_telescope.specs.later.VerdictExactly.{verdictExactly};
 ghost use Rattle.centralized_telescope.specs.later.Distinct.{distinctExactly};
+ghost use Rattle.centralized_telescope.specs.later.PoolClaims.{poolAsOneList, poolGuaranteed};
 ghost use Rattle.centralized_telescope.specs.later.FirstLayout.{firstRefused};
 ghost use Rattle.centralized_telescope.specs.later.PlanClaims.{planSuffices, planNeeded, stepsNotPassed, ticketFits, ticketBounded};
 ghost use Rattle.centralized_telescope.specs.later.PlanClaims.{tightExample};
@@ -46,6 +47,16 @@ pub fn cases_served()
 // On an accepted list the answer of `check_distinct` is yes exactly when no two places hold the same element.
 pub fn distinct_exactly()
     ensures { λ _. ⌜ distinctExactly ⌝ }
+{}
+
+// On lists and a pool that aren't refused `prove_pool` answers as `prove` does on any accepted list with the pool's elements.
+pub fn pool_as_one_list()
+    ensures { λ _. ⌜ poolAsOneList ⌝ }
+{}
+
+// Demand 3's sentences on the prover and on its proof hold of `prove_pool`, read over the pool's elements.
+pub fn pool_guaranteed()
+    ensures { λ _. ⌜ poolGuaranteed ⌝ }
 {}
 
 // A ticket written and read, into buffers with room, gives R, S and the elements that were written.

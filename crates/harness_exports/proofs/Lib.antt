@@ -3,3 +3,4 @@ mod Answer
 mod ProverNumbers
 mod TicketNumbers
 mod PlanAnswers
+mod PoolNumbers

@@ -6,13 +6,11 @@ use native.Mathlib.Omega.{arith}
 use borrow.Author.Tests.{le-leb, lt-leb}
 use lib.ListN.{length, set}
 use lib.Seq.{sets-eq}
-use Rattle.centralized_telescope.specs.core.Elements.{Lent}
-use Rattle.centralized_telescope.specs.core.Prover.{Proved, proved, provedBy}
-use Rattle.centralized_telescope.specs.declared.params.Params.{Params}
+use Rattle.centralized_telescope.specs.core.Prover.{Proved, provedBy}
 use Rattle.centralized_telescope.specs.declared.search.ProofSearch.{ProofSearch}
 use Rattle.centralized_telescope.specs.declared.search.ProofSearch.the-variants as answer
 use Rattle.harness_exports.specs.declared.Numbers.{Numbers}
-use Rattle.harness_exports.specs.Exported.{inNumbers, searchNumbers, withCounters, exportedProve}
+use Rattle.harness_exports.specs.Exported.{inNumbers, searchNumbers, withCounters, exportedSearch}
 
 -- three stores
 pub counters-put : (out : List ℕ) (n : Numbers) → 3 ≤ length out
@@ -45,17 +43,17 @@ same-places (answer.NotFoundInBounds count) places table = (refl, refl)
 same-places (answer.NotFound count) places table = (refl, refl)
 same-places (answer.Refused k) places table = (refl, refl)
 
-pub exported-so : (p : Params) (lent : Lent) (places table out : List ℕ) (a : ProofSearch) (n : Numbers) (places′ table′ out′ : List ℕ)
-    → provedBy a places′ table′ ≡ proved p lent places table
+-- s is what the definition answers
+pub exported-so : (s : Proved) (out : List ℕ) (a : ProofSearch) (n : Numbers) (places′ table′ out′ : List ℕ)
+    → provedBy a places′ table′ ≡ s
     → n ≡ searchNumbers a
     → out′ ≡ withCounters n out
-    → (n .number, places′, table′, out′) ≡ exportedProve p lent places table out
-unfolding exportedProve
-exported-so p lent places table out a n places′ table′ out′ e en eo =
+    → (n .number, places′, table′, out′) ≡ exportedSearch s out
+exported-so s out a n places′ table′ out′ e en eo =
     let r = provedBy a places′ table′ in
     let m : n ≡ inNumbers r = en ∙ same-numbers a places′ table′ in
     let k = same-places a places′ table′ in
     let here : _≡_ {A = ℕ × List ℕ × List ℕ × List ℕ} (n .number, places′, table′, out′)
     (r .number, r .places, r .table, withCounters (inNumbers r) out) =
     rw (eo, m, ← k .0, ← k .1) in
-    here ∙ ap (λ (q : Proved). (q .number, q .places, q .table, withCounters (inNumbers q) out)) e
+    here ∙ ap (λ (q : Proved). exportedSearch q out) e

@@ -3,20 +3,23 @@ use mathlib.Core.Path.{_≡_}
 use mathlib.Core.Bool.{Bool, cond}
 use mathlib.Core.List.{List, [], _∷_}
 use Prim.Native.Nat.{ℕ, zero, suc}
-use lib.Dec.{eqb, leb}
+use lib.Dec.{eqb, leb, ltb}
 use lib.Ieee.{Float}
 use lib.ListN.{length, drop}
 use Rattle.sampling.specs.core.Hash.{hashed}
 use Rattle.centralized_telescope.specs.core.Elements.{Lent, lentOf}
+use Rattle.centralized_telescope.specs.core.Lists.{over}
 use Rattle.centralized_telescope.specs.later.Distinct.{distinct}
 use Rattle.centralized_telescope.specs.later.SmallCase.{smallCase}
 use Rattle.centralized_telescope.specs.later.Plan.{planned, plannedBy}
+use Rattle.centralized_telescope.specs.later.Pool.{poolSize, poolSizeBy, poolData, provedPool}
 use Rattle.centralized_telescope.specs.later.ProofSize.{SizeIs, sizeBy}
 use Rattle.centralized_telescope.specs.core.Prover.{Proved, proved, provedBy}
 use Rattle.centralized_telescope.specs.later.Tickets.{TicketWritten, ticketWritten, ticketWrittenBy, TicketRead, ticketRead, ticketReadBy}
 use Rattle.centralized_telescope.specs.declared.params.Params.{Params}
 use Rattle.centralized_telescope.specs.declared.planning.Amounts.{Amounts}
 use Rattle.centralized_telescope.specs.declared.planning.Planned.{Planned}
+use Rattle.centralized_telescope.specs.declared.pool.PoolSize.{PoolSize}
 use Rattle.centralized_telescope.specs.declared.search.ProofSearch.{ProofSearch}
 use Rattle.centralized_telescope.specs.declared.security.SmallestSize.{SmallestSize}
 use Rattle.centralized_telescope.specs.declared.ticket.TicketBlocks.{TicketBlocks}
@@ -72,10 +75,15 @@ unfoldable pub withCounters : Numbers → List ℕ → List ℕ
 withCounters n out = cond (leb 3 (length out)) (n .retry ∷ n .search ∷ n .count ∷ drop 3 out) out
 
 -- the number, and places, bin table and the lent numbers afterwards
+abbrev pub exportedSearch : Proved → List ℕ → ℕ × List ℕ × List ℕ × List ℕ
+exportedSearch r out = (r .number, r .places, r .table, withCounters (inNumbers r) out)
+
 unfoldable pub exportedProve : Params → Lent → List ℕ → List ℕ → List ℕ → ℕ × List ℕ × List ℕ × List ℕ
-exportedProve p lent places table out =
-    let r : Proved = proved p lent places table in
-    (r .number, r .places, r .table, withCounters (inNumbers r) out)
+exportedProve p lent places table out = exportedSearch (proved p lent places table) out
+
+-- the same over a pool
+unfoldable pub exportedProvePool : Params → Lent → Lent → List ℕ → List ℕ → List ℕ → ℕ × List ℕ × List ℕ × List ℕ
+exportedProvePool p first second places table out = exportedSearch (provedPool p first second places table) out
 
 -- ---- tickets
 
@@ -139,3 +147,19 @@ sizeNumbers a = record { number = sizeBy a .0; size = sizeBy a .1 }
 -- the number, and the lent numbers afterwards: the size, 0 with a refusal, in the first of them
 abbrev pub ExportedSize : ℕ → ℕ → ℕ → ℕ → List ℕ → ℕ → List ℕ → Type 0
 ExportedSize s c n f out number out′ = (u : ℕ) × SizeIs s c n f number u × (out′ ≡ withFirst u out)
+
+-- ---- the pool
+
+-- the number and the size of an answer
+abbrev pub poolNumbers : PoolSize → SizeNumbers
+poolNumbers a = record { number = poolSizeBy a .0; size = poolSizeBy a .1 }
+
+-- the number, and the lent numbers afterwards: the size, 0 with a refusal, in the first of them
+unfoldable pub exportedPoolSize : Lent → Lent → List ℕ → ℕ × List ℕ
+exportedPoolSize first second out = (poolSize first second .0, withFirst (poolSize first second .1) out)
+
+-- the part in the first of the lent bytes and its length in the first of the lent numbers; or 42 with both as they were, where it is longer
+unfoldable pub exportedPoolData : Lent → Lent → ℕ → List ℕ → List ℕ → ℕ × List ℕ × List ℕ
+exportedPoolData first second place part out =
+    let own : List ℕ = poolData first second place in
+    cond (ltb (length part) (length own)) (42, part, out) (0, over own part, withFirst (length own) out)

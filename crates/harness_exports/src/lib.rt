@@ -10,10 +10,12 @@ ghost use Rattle.centralized_telescope.specs.later.Tickets.{blocksIn};
 ghost use Rattle.harness_exports.specs.Exported.{exportedHash, six, exportedSmallCase, exportedDistinct, withoutProof, searchNumbers};
 ghost use Rattle.harness_exports.specs.Exported.{withCounters, exportedProve, blocksNumbers, withFirst, exportedWriteTicket};
 ghost use Rattle.harness_exports.specs.Exported.{readNumbers, withRead, exportedReadTicket, planNumbers, withAmounts, exportedPlan};
-ghost use Rattle.harness_exports.specs.Exported.{sizeNumbers, ExportedSize};
+ghost use Rattle.harness_exports.specs.Exported.{sizeNumbers, ExportedSize, exportedProvePool, poolNumbers, exportedPoolSize};
+ghost use Rattle.harness_exports.specs.Exported.{exportedPoolData};
 use centralized_telescope::Amounts;
 use centralized_telescope::Distinctness;
 use centralized_telescope::Planned;
+use centralized_telescope::PoolSize;
 use centralized_telescope::ProofSearch;
 use centralized_telescope::RetryCounter;
 use centralized_telescope::SearchCounter;
@@ -174,6 +176,60 @@ pub extern "C" fn alba_prove(
         x_low,
     );
     let answer = centralized_telescope::prove(p, data, ends, marks, indexes, places, table);
+    let n = numbers_of(answer);
+    put_counters(n, out);
+    n.number
+}
+
+// The prover over the pool of two lists, as `alba_prove`.
+#[no_mangle]
+pub extern "C" fn alba_prove_pool<'a>(
+    set_size: u64,
+    proof_size: u64,
+    max_retries: u64,
+    search_width: u64,
+    dfs_bound: u64,
+    x_high: u64,
+    x_low: u64,
+    data: &'a [u8],
+    ends: &[u32],
+    marks: &[u8],
+    indexes: &[u64],
+    data2: &'a [u8],
+    ends2: &[u32],
+    marks2: &[u8],
+    indexes2: &[u64],
+    places: &mut [u32],
+    table: &mut [u32],
+    out: &mut [u64],
+) -> u32
+    ensures { λ r. ⌜ (r, now (places .exit), now (table .exit), now (out .exit))
+        ≡ exportedProvePool (settingsOf «set_size» «proof_size» «max_retries» «search_width» «dfs_bound» «x_high» «x_low»)
+        (lentAtEntry «data» ends marks indexes) (lentAtEntry data2 ends2 marks2 indexes2) (now (places .entry)) (now (table .entry))
+        (now (out .entry)) ⌝ }
+{
+    let p = settings_of(
+        set_size,
+        proof_size,
+        max_retries,
+        search_width,
+        dfs_bound,
+        x_high,
+        x_low,
+    );
+    let answer = centralized_telescope::prove_pool(
+        p,
+        data,
+        ends,
+        marks,
+        indexes,
+        data2,
+        ends2,
+        marks2,
+        indexes2,
+        places,
+        table,
+    );
     let n = numbers_of(answer);
     put_counters(n, out);
     n.number
@@ -403,4 +459,89 @@ pub extern "C" fn alba_proof_size(s: u64, c: u64, n: u64, f: u64, out: &mut [u64
     let numbers = size_numbers(answer);
     put_first(numbers.size, out);
     numbers.number
+}
+
+fn pool_numbers(answer: PoolSize) -> SizeNumbers
+    ensures { λ r. ⌜ r ≡ poolNumbers answer ⌝ }
+{
+    match answer {
+        PoolSize::Of(size) => SizeNumbers {
+            number: 0,
+            size: size as u64,
+        },
+        PoolSize::Refused(k) => SizeNumbers {
+            number: refusal_number(k),
+            size: 0,
+        },
+    }
+}
+
+// The size of the pool of two lists: 0 or the number. `out` takes the size, 0 with a refusal, where it has a number or more.
+#[no_mangle]
+pub extern "C" fn alba_pool_size(
+    data: &[u8],
+    ends: &[u32],
+    marks: &[u8],
+    indexes: &[u64],
+    data2: &[u8],
+    ends2: &[u32],
+    marks2: &[u8],
+    indexes2: &[u64],
+    out: &mut [u64],
+) -> u32
+    ensures { λ r. ⌜ (r, now (out .exit))
+        ≡ exportedPoolSize (lentAtEntry «data» ends marks indexes) (lentAtEntry data2 ends2 marks2 indexes2) (now (out .entry)) ⌝ }
+{
+    let answer = centralized_telescope::pool_size(
+        data,
+        ends,
+        marks,
+        indexes,
+        data2,
+        ends2,
+        marks2,
+        indexes2,
+    );
+    let n = pool_numbers(answer);
+    put_first(n.size, out);
+    n.number
+}
+
+// The data of the element at a place of the pool: 0 with that part in the first lent bytes and its length in the first lent number, if
+// there is one; or 42 with nothing written where the part is longer than what is lent.
+#[no_mangle]
+pub extern "C" fn alba_pool_data<'a>(
+    data: &'a [u8],
+    ends: &[u32],
+    marks: &[u8],
+    indexes: &[u64],
+    data2: &'a [u8],
+    ends2: &[u32],
+    marks2: &[u8],
+    indexes2: &[u64],
+    place: u64,
+    part: &mut [u8],
+    out: &mut [u64],
+) -> u32
+    ensures { λ r. ⌜ (r, now (part .exit), now (out .exit))
+        ≡ exportedPoolData (lentAtEntry «data» ends marks indexes) (lentAtEntry data2 ends2 marks2 indexes2) place (now (part .entry))
+        (now (out .entry)) ⌝ }
+{
+    let own = centralized_telescope::pool_data(
+        data,
+        ends,
+        marks,
+        indexes,
+        data2,
+        ends2,
+        marks2,
+        indexes2,
+        place as usize,
+    );
+    if part.len() < own.len() {
+        return 42;
+    }
+    bytes::copy(own, part);
+    put_first(own.len() as u64, out);
+    0
 }

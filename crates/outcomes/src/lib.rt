@@ -35,6 +35,7 @@ fn say_meaning(number: u64) {
             say(b"set size 2 to 32768, lower bound 1 to set size - 1");
         }
         44 => say(b"no proof size from 1 to 1024 is enough for these security figures"),
+        45 => say(b"the pool has more than 65536 elements"),
         _ => {}
     }
 }

@@ -296,6 +296,34 @@ pub fn are_same(
     check::same(data_at(data, ends, a), data_at(data, ends, b))
 }
 
+// What a byte makes of a key. Each step is kept below 32,749, a prime.
+fn mixed(key: u64, byte: u8) -> u64 {
+    ((key % 32749) * 31 + wide_byte(byte) % 256) % 32749
+}
+
+fn wide_byte(x: u8) -> u64 {
+    x as u64
+}
+
+fn data_key(own: &[u8]) -> u64 {
+    let mut key = 0;
+    let mut i = 0;
+    while i < own.len() {
+        key = mixed(key, own[i]);
+        i += 1;
+    }
+    key
+}
+
+// A number below 32,749 that an element's data and index tell: the same elements have the same, and others mostly another.
+pub fn key_at(data: &[u8], ends: &[u32], marks: &[u8], indexes: &[u64], place: usize) -> u64
+    ensures { λ r. ⌜ r < 32749 ⌝ }
+{
+    let index = index_at(marks, indexes, place);
+    let key = data_key(data_at(data, ends, place));
+    (key % 32749 + index.number % 32749) % 32749
+}
+
 // Writes the element at a place of a list as a line, and answers as `io::write_all` does.
 pub fn write_line(
     fd: i32,

@@ -77,7 +77,7 @@ fn say_no_line(name: &[u8], number: u64, came: Came) {
 fn say_not_added(name: &[u8], number: u64, came: Adding) {
     match came {
         Adding::TooLong => say_of_line(name, number, b"over 4096 data bytes in one element"),
-        Adding::TooMany => say_of_line(name, number, b"more than 65536 elements"),
+        Adding::TooMany => say_of_line(name, number, b"more than 65536 elements in all"),
         Adding::TooMuch => say_of_line(name, number, b"more than 1048576 data bytes in all"),
         _ => say_of_line(
             name,

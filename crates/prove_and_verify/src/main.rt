@@ -1,13 +1,17 @@
 // Makes a proof from a file of elements, writes it to a file and verifies it; before it searches it says whether two elements are the same.
 //
-//     prove_and_verify ELEMENTS PROOF SET_SIZE U C
-//     prove_and_verify ELEMENTS PROOF SET_SIZE PROOF_SIZE MAX_RETRIES SEARCH_WIDTH DFS_BOUND X
+//     prove_and_verify ELEMENTS PROOF SET_SIZE U C [SECOND]
+//     prove_and_verify ELEMENTS PROOF SET_SIZE PROOF_SIZE MAX_RETRIES SEARCH_WIDTH DFS_BOUND X [SECOND]
 //
 // The first takes the small case's settings for proofs of U elements and completeness C, the second each setting by itself. ELEMENTS has an
 // element to a line: its data in hexadecimal, `-` where it is empty, and perhaps a space and its index in decimal. PROOF is a new
 // file, made once a proof is found: a line `proof R S`, then its elements, in the same form. C is a whole number, or 0x and the 16
-// hexadecimal digits of a double's bits; X has 32 hexadecimal digits. There is room for 65,536 elements of 1,048,576 data bytes in all, and
-// for 524,288 data bytes in a proof: with the deepest search, that is what fits the system's ordinary stack of 8 MB.
+// hexadecimal digits of a double's bits; X has 32 hexadecimal digits. SECOND is another file of elements: the proof is then over the pool,
+// the elements of ELEMENTS and behind them those of SECOND that equal none of these. There is room for 65,536 elements of 1,048,576 data
+// bytes in all, in both files together, and for 524,288 data bytes in a proof: with the deepest search, that is what fits the system's
+// ordinary stack of 8 MB.
+mod both_files;
+mod pool;
 mod repeats;
 mod search;
 mod write_and_verify;
@@ -17,9 +21,9 @@ use arguments::Reading;
 use text::say::say;
 
 fn say_usage() {
-    say(b"usage: prove_and_verify ELEMENTS PROOF SET_SIZE U C\n");
+    say(b"usage: prove_and_verify ELEMENTS PROOF SET_SIZE U C [SECOND]\n");
     say(
-        b"       prove_and_verify ELEMENTS PROOF SET_SIZE PROOF_SIZE MAX_RETRIES SEARCH_WIDTH DFS_BOUND X\n",
+        b"       prove_and_verify ELEMENTS PROOF SET_SIZE PROOF_SIZE MAX_RETRIES SEARCH_WIDTH DFS_BOUND X [SECOND]\n",
     );
     say(
         b"ELEMENTS  a file of elements, one to a line: data in hexadecimal, or -, and perhaps a space and the index\n",
@@ -31,6 +35,9 @@ fn say_usage() {
         b"U, C      proof size and completeness of the small case; C a whole number, or 0x and 16 hexadecimal digits of a double\n",
     );
     say(b"X         the threshold of 128 bits, in 32 hexadecimal digits\n");
+    say(
+        b"SECOND    another file of elements: those that equal none of ELEMENTS are added to them, and the proof is over all\n",
+    );
 }
 
 // The settings follow the two files; what is past its limits the library refuses by number.
@@ -57,11 +64,31 @@ fn make_proof(asked: Asked) {
     }
 }
 
+// The same over the pool of two files, the second of which is argument i.
+fn make_pool_proof(asked: Asked, i: usize) {
+    let mut elements = io::buffer();
+    let mut second = io::buffer();
+    let mut proof = io::buffer();
+    match asked {
+        Asked::Refused => {}
+        Asked::Settings(p) => {
+            let n = arguments::path(1, b"ELEMENTS", &mut elements);
+            let m = arguments::path(2, b"PROOF", &mut proof);
+            let k = arguments::path(i, b"SECOND", &mut second);
+            if n != 0 && m != 0 && k != 0 {
+                pool::run(p, &elements[..n], &second[..k], &proof[..m]);
+            }
+        }
+    }
+}
+
 fn main() {
     // The program's own name is among them.
     match os::arg_count() {
         6 => make_proof(arguments::small_case(behind_files())),
+        7 => make_pool_proof(arguments::small_case(behind_files()), 6),
         9 => make_proof(arguments::each_by_itself(behind_files())),
+        10 => make_pool_proof(arguments::each_by_itself(behind_files()), 9),
         _ => say_usage(),
     }
 }

@@ -23,7 +23,7 @@ fn table_room() -> [u32; 98305]
 }
 
 // How many of n elements the search keeps: the first 2 * set_size.
-fn kept(n: usize, set_size: u64) -> u64 {
+pub fn kept(n: usize, set_size: u64) -> u64 {
     let all = n as u64;
     if all / 2 < set_size {
         return all;
@@ -43,7 +43,7 @@ fn say_places(places: &[u32]) {
     }
 }
 
-fn say_found(counters: Counters, count: u64, places: &[u32]) {
+pub fn say_found(counters: Counters, count: u64, places: &[u32]) {
     let retry = counters.retry;
     let search = counters.search;
     say_figure(b"found: R ", retry.0);
@@ -57,6 +57,17 @@ fn say_found(counters: Counters, count: u64, places: &[u32]) {
 fn say_not_found(number: u64, count: u64) {
     say_figure(b"not found, steps ", count);
     say_outcome(b"", number);
+}
+
+// What came of a search that found nothing, or was refused.
+pub fn say_without_proof(found: ProofSearch) {
+    let number = proof_search_number(found) as u64;
+    match found {
+        ProofSearch::Found(_, _, _) => {}
+        ProofSearch::NotFoundInBounds(count) => say_not_found(number, count),
+        ProofSearch::NotFound(count) => say_not_found(number, count),
+        ProofSearch::Refused(_) => say_outcome(b"refused", number),
+    }
 }
 
 // Says whether two elements are the same, which the prover doesn't ask; searches, and says what came of it.
@@ -81,7 +92,6 @@ fn search(
         &mut places,
         &mut table,
     );
-    let number = proof_search_number(found) as u64;
     match found {
         ProofSearch::Found(retry, search, count) => {
             let counters = Counters { retry, search };
@@ -89,13 +99,11 @@ fn search(
             say_found(counters, count, chain);
             write_and_verify::run(p, proof, counters, chain, data, ends, marks, indexes);
         }
-        ProofSearch::NotFoundInBounds(count) => say_not_found(number, count),
-        ProofSearch::NotFound(count) => say_not_found(number, count),
-        ProofSearch::Refused(_) => say_outcome(b"refused", number),
+        _ => say_without_proof(found),
     }
 }
 
-fn say_settings(p: Params) {
+pub fn say_settings(p: Params) {
     say_figure(b"settings: set size ", p.set_size);
     say_figure(b", proof size ", p.proof_size);
     say_figure(b", tries up to ", p.max_retries);
@@ -116,11 +124,19 @@ fn say_task(p: Params, elements: &[u8], n: usize) {
     say(b"\n");
 }
 
-// Reads the file of elements, searches, and writes the proof's file. The proof's file must be new: no file is overwritten, and
-// above all not the elements', whatever path or link leads there. It is asked before the search, which may be long.
-pub fn run(p: Params, elements: &[u8], proof: &[u8]) {
-    if is_there(proof) {
+// The proof's file must be new: no file is overwritten, and above all not the elements', whatever path or link leads there. It is asked
+// before the search, which may be long.
+pub fn is_taken(proof: &[u8]) -> bool {
+    let taken = is_there(proof);
+    if taken {
         say_of_file(proof, b"is there already; a proof never overwrites a file");
+    }
+    taken
+}
+
+// Reads the file of elements, searches, and writes the proof's file.
+pub fn run(p: Params, elements: &[u8], proof: &[u8]) {
+    if is_taken(proof) {
         return;
     }
     let mut data = proof_files::data_room();

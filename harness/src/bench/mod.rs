@@ -6,6 +6,7 @@
 mod distinctness;
 mod measure;
 mod openssl;
+mod pools;
 mod searches;
 mod sizes;
 mod steps;
@@ -35,6 +36,7 @@ pub fn run(part: Bench) -> Result<(), String> {
         Bench::Tickets => tickets::run(),
         Bench::Distinctness => distinctness::run(),
         Bench::Sizes => sizes::run(),
+        Bench::Pools => pools::run(),
         _ => whole(),
     }
 }
@@ -50,9 +52,10 @@ fn whole() -> Result<(), String> {
     steps::run()?;
     tickets::run()?;
     sizes::run()?;
+    pools::run()?;
     println!("\nThe ratio is of speeds: 1.00 is as fast, above it faster. Times are the thread's own; times and ratios are medians of {ROUNDS} rounds,");
     println!(
-        "of {} for elements of 4,096 bytes, and of searches over their seeds; where nothing is found it is one search.",
+        "of {} for elements of 4,096 bytes and for pools, and of searches over their seeds; where nothing is found it is one search.",
         distinctness::FEW
     );
     Ok(())

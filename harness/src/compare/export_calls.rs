@@ -1,10 +1,10 @@
 //! Each export with arguments whose answer is known, made by the library and worked out by the Rust, the specification's table and words
-//! and the harness's own tickets and sizes.
+//! and the harness's own tickets and sizes. Those for two lists pooled are in pool_calls.rs.
 
 use super::parameters::Args;
 use super::searches::Outcome;
 use super::verdicts::{self, Claim};
-use super::{plan, searches, small_case, threshold, verifier_refusals};
+use super::{plan, pool_calls, searches, small_case, threshold, verifier_refusals};
 use crate::model::{chains, rules};
 use crate::{
     ffi,
@@ -37,7 +37,8 @@ const SEED: u64 = 0x43_c389_a516;
 pub fn all() -> Result<Vec<Export>, String> {
     let (samplers, tickets) = ([uniform(), bernoulli(), converter(), hash(), small()], [write_ticket(), read_ticket(), stated_blocks()]);
     let searches = [distinct(), prove()?, verify()?];
-    Ok(samplers.into_iter().chain(searches).chain(tickets).chain([plan(), size()]).collect())
+    let pools = pool_calls::all()?;
+    Ok(samplers.into_iter().chain(searches).chain(tickets).chain([plan(), size()]).chain(pools).collect())
 }
 
 /// Parameters: h, n, out.
@@ -127,7 +128,7 @@ fn distinct() -> Export {
 fn prove() -> Result<Export, String> {
     let s = Settings { set_size: 5, proof_size: 3, max_retries: 9, search_width: 4, dfs_bound: 60, x: OfQ(0.005) };
     // The try that finds is past search_width, so that the retries can't be as few.
-    let (list, proof) = found(&s, |found| found.retry_counter > 4)?;
+    let (list, proof) = found(&s, |_, found| found.retry_counter > 4)?;
     let [x_high, x_low] = halves(least_x(&s, &list, &proof)?);
     let args = Args {
         numbers: vec![s.set_size, s.proof_size, s.max_retries, s.search_width, s.dfs_bound, x_high, x_low],
@@ -169,7 +170,7 @@ fn prove_due(args: &mut Args) -> Result<u32, String> {
 fn verify() -> Result<Export, String> {
     let s = Settings { set_size: 11, proof_size: 5, max_retries: 7, search_width: 41, dfs_bound: 1 << 33, x: OfQ(0.0015) };
     // All nine numbers are different, S is no lawful R, and the try isn't the first.
-    let (list, proof) = found(&s, |found| {
+    let (list, proof) = found(&s, |_, found| {
         let (retry, search) = (found.retry_counter, found.search_counter);
         ![1, s.proof_size, s.max_retries].contains(&retry) && search > s.max_retries && search != s.set_size
     })?;
@@ -287,12 +288,12 @@ fn figures_of(args: &Args) -> Figures {
 }
 
 /// A list of which the Rust finds a proof that is wanted, and the proof.
-fn found(s: &Settings, is_wanted: impl Fn(&Outcome) -> bool) -> Result<(List, Outcome), String> {
+pub fn found(s: &Settings, is_wanted: impl Fn(&List, &Outcome) -> bool) -> Result<(List, Outcome), String> {
     let mut rng = Rng::new(SEED, s.set_size);
     loop {
         let list = searches::list_of(&mut rng, 2 * s.set_size as usize + 1, 1, 9);
         let outcome = searches::due(s, &list)?;
-        if outcome.number == 0 && is_wanted(&outcome) {
+        if outcome.number == 0 && is_wanted(&list, &outcome) {
             return Ok((list, outcome));
         }
     }
@@ -300,7 +301,7 @@ fn found(s: &Settings, is_wanted: impl Fn(&Outcome) -> bool) -> Result<(List, Ou
 
 /// The least X under which the first chain that passes is still that of the proof, which the Rust found with a greater X: the next number
 /// after that of the chain's last hash. So every digit of both words counts.
-fn least_x(s: &Settings, list: &List, proof: &Outcome) -> Result<u128, String> {
+pub fn least_x(s: &Settings, list: &List, proof: &Outcome) -> Result<u128, String> {
     let number = chains::last_number(&Claim::of(s, list, proof));
     let x = 1 + number.ok_or("  the proof that the Rust found has no chain by the specification's words\n")?;
     match chains::search(&Settings { x: Alone(x), ..*s }, list) {
@@ -309,7 +310,7 @@ fn least_x(s: &Settings, list: &List, proof: &Outcome) -> Result<u128, String> {
     }
 }
 
-fn settings(args: &Args) -> Settings {
+pub fn settings(args: &Args) -> Settings {
     let [set_size, proof_size, max_retries, search_width, dfs_bound, x_high, x_low, ..] = args.numbers[..] else {
         unreachable!("seven numbers or more")
     };

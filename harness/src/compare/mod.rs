@@ -16,6 +16,8 @@ mod parameters;
 pub mod plan;
 pub mod planned;
 pub mod planted;
+pub mod pool;
+mod pool_calls;
 pub mod proof_size;
 pub mod prover_refusals;
 pub mod refusals;
@@ -43,7 +45,7 @@ type Kind = fn(&mut Run, u64) -> Checked;
 
 pub fn run(options: &Compare) -> Checked {
     println!("seed 0x{:016x}, {} random cases", options.seed, options.cases);
-    let kinds: [(&str, Kind, u64); 21] = [
+    let kinds: [(&str, Kind, u64); 22] = [
         ("orders of parameters", parameters::run, 0),
         ("uniform", uniform::run, options.cases),
         ("threshold", threshold::run, options.cases),
@@ -65,6 +67,7 @@ pub fn run(options: &Compare) -> Checked {
         ("planning", plan::run, options.cases),
         ("planned runs", planned::run, options.cases / 200),
         ("proof size", proof_size::run, options.cases / 40),
+        ("pools", pool::run, options.cases / 400),
     ];
     let (mut counts, mut parts) = (Vec::new(), String::new());
     for (stream, (name, kind, cases)) in (0..).zip(kinds) {

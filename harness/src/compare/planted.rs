@@ -23,6 +23,12 @@ impl Lent {
     fn with_data(&self, data: Vec<u8>) -> Lent {
         Lent { data, ..self.clone() }
     }
+
+    /// The same element; beside the mark 0 stands another number.
+    pub fn again(&self, rng: &mut Rng) -> Lent {
+        let number = if self.is_marked { self.number } else { other_number(rng, self.number) };
+        Lent { number, ..self.clone() }
+    }
 }
 
 pub fn list_of(elements: &[Lent]) -> List {
@@ -156,20 +162,9 @@ pub fn with_pair(rng: &mut Rng, elements: &[Lent], shape: usize, planting: Plant
     if elements.len() < 2 {
         return as_is(elements, shape);
     }
-    let (name, _, make) = PLANTS[planting.plant];
     let (first, second) = two_places(rng, elements.len(), planting.is_next);
-    let mut one = elements[first].clone();
-    match planting.data {
-        PairData::Own => (),
-        PairData::None => one.data.clear(),
-        PairData::Long => one.data = room(rng)[..BYTES - rng.below(17) as usize].to_vec(),
-    }
-    if rng.below(2) == 0 {
-        one.number = any_number(rng);
-    }
-    let mut pair = make(rng, one);
-    pair.swap(0, rng.below(2) as usize);
-    let mut kinds = vec![name, if second == first + 1 { NEXT } else { APART }];
+    let pair = pair_of(rng, elements[first].clone(), planting);
+    let mut kinds = vec![PLANTS[planting.plant].0, if second == first + 1 { NEXT } else { APART }];
     match pair[0].data.len().max(pair[1].data.len()) {
         0 => kinds.push(EMPTY),
         4001.. => kinds.push(LONG),
@@ -180,6 +175,29 @@ pub fn with_pair(rng: &mut Rng, elements: &[Lent], shape: usize, planting: Plant
     let mut made = as_is(&elements, shape);
     made.kinds.extend(kinds);
     made
+}
+
+/// The two that are planted, made of an element, either of them first.
+fn pair_of(rng: &mut Rng, mut one: Lent, planting: Planting) -> [Lent; 2] {
+    match planting.data {
+        PairData::Own => (),
+        PairData::None => one.data.clear(),
+        PairData::Long => one.data = room(rng)[..BYTES - rng.below(17) as usize].to_vec(),
+    }
+    if rng.below(2) == 0 {
+        one.number = any_number(rng);
+    }
+    let mut pair = PLANTS[planting.plant].2(rng, one);
+    pair.swap(0, rng.below(2) as usize);
+    pair
+}
+
+/// Puts a pair into two lists that aren't empty, one of the two into each, and says into which place of the second.
+pub fn across(rng: &mut Rng, first: &mut [Lent], second: &mut [Lent], planting: Planting) -> usize {
+    let [a, b] = [first.len(), second.len()].map(|len| rng.below(len as u64) as usize);
+    let one = if rng.below(2) == 0 { &first[a] } else { &second[b] }.clone();
+    [first[a], second[b]] = pair_of(rng, one, planting);
+    b
 }
 
 /// Two places of two or more.

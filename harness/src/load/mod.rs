@@ -6,14 +6,14 @@ mod turns;
 
 use crate::args::Load;
 use crate::compare::blocks::{self, Block, Tally};
-use crate::compare::{block_counts, planned, planted, Checked};
+use crate::compare::{block_counts, planned, planted, pool, Checked};
 use std::panic::{self, AssertUnwindSafe};
 use std::sync::{Mutex, MutexGuard, PoisonError};
 use std::thread;
 use std::time::{Duration, Instant};
 
 /// The exported calls, as the tallies name them.
-const CALLS: [&str; 13] = [
+const CALLS: [&str; 16] = [
     "uniform",
     "Bernoulli",
     "threshold",
@@ -27,6 +27,9 @@ const CALLS: [&str; 13] = [
     "stated count",
     "plan",
     "proof size",
+    "pool size",
+    "pool data",
+    "prove pool",
 ];
 /// How often a line says how far it is.
 const EVERY: Duration = Duration::from_secs(10);
@@ -38,7 +41,8 @@ struct Shared {
     end: u64,
     running: usize,
     tally: Tally,
-    /// How often each kind of list for distinctness, of what is planned, of security figures and of tickets by their number of blocks came.
+    /// How often each kind of list for distinctness, of what is planned, of security figures, of tickets by their number of blocks and of
+    /// two lists came.
     seen: Tally,
     failed: Checked,
 }
@@ -65,7 +69,7 @@ pub fn run(options: &Load) -> Checked {
     ended.failed?;
     print!("{}{}", table(&ended.tally), ended.seen.lines("kinds"));
     if turn.is_none() {
-        let kinds = planted::kinds().chain(planned::kinds()).chain(block_counts::kinds());
+        let kinds = planted::kinds().chain(planned::kinds()).chain(block_counts::kinds()).chain(pool::kinds());
         ended.seen.none_missing(kinds).map_err(|why| format!("kinds: FAILED (seed 0x{seed:016x})\n{why}"))?;
     }
     println!("equal in all cases: {}", so_far(&ended.tally, started));

@@ -5,8 +5,8 @@ use crate::compare::blocks::Block;
 use crate::compare::planned::{self, Planned};
 use crate::compare::planted::{NUMBERS, PLANTS, SHAPES};
 use crate::compare::{
-    bernoulli, block_counts, distinct, faults, hash, plan, proof_size, prover_refusals, refusals, searches, small_case, threshold, tickets,
-    uniform, verdicts, verifier_refusals,
+    bernoulli, block_counts, distinct, faults, hash, plan, pool, proof_size, prover_refusals, refusals, searches, small_case, threshold,
+    tickets, uniform, verdicts, verifier_refusals,
 };
 use crate::compare::{Answered, Checked};
 use crate::model::rules::{BYTES, ELEMENTS, MOST};
@@ -16,7 +16,7 @@ use std::sync::{Mutex, PoisonError};
 type Turn = fn(&mut Block) -> Checked;
 
 /// Each with its name and how often it comes in its turn: so often that most turns take some hundredths or tenths of a second.
-const TURNS: [(&str, u64, Turn); 11] = [
+const TURNS: [(&str, u64, Turn); 12] = [
     ("samplers", 20_000, samplers),
     ("hash", 4000, hashes),
     ("small case", 10_000, small_cases),
@@ -28,6 +28,7 @@ const TURNS: [(&str, u64, Turn); 11] = [
     ("random proofs", 32, random_proof),
     ("bad input to verify", 8, bad_to_verify),
     ("tickets", 2, tickets),
+    ("pools", 1, pools),
 ];
 /// Once in so many turns the fullest lists come instead: they take seconds.
 const FULL_EACH: u64 = 1024;
@@ -205,6 +206,20 @@ fn tickets(block: &mut Block) -> Checked {
     })
 }
 
+/// Short lists of every kind, the sizes at the pool's limit, and a list of any size cut in two: searched over, and with faults.
+fn pools(block: &mut Block) -> Checked {
+    pool::every_length(block, NUMBERS)?;
+    pool::sizes_at_the_limit(block)?;
+    let mut settings = draws::any_settings(&mut block.rng);
+    let list = draws::enough_elements(&mut block.rng, settings.set_size);
+    draws::keep_within(&mut block.rng, &mut settings, &list, 1 << 14);
+    let two = pool::cut(&mut block.rng, &list);
+    pool::check_size(block, &two)?;
+    pool::check_search(block, &two, &settings)?;
+    (0..COPIES).try_for_each(|_| pool::check_with_faults(block, &two, settings))?;
+    (0..32).try_for_each(|_| pool::any(block))
+}
+
 /// One at a time: each holds some hundred megabytes.
 static FULL: Mutex<()> = Mutex::new(());
 
@@ -215,6 +230,7 @@ fn full(block: &mut Block) -> Checked {
     full_strings(block)?;
     let list = searches::list_of(&mut block.rng, ELEMENTS, BYTES, BYTES);
     distinct::check_list(block, &list)?;
+    pool::check_size(block, &pool::Two::of(list.clone(), list.clone()))?;
     tickets::there_and_back(block, &Proof { retry: 1, search: 2, list: list.clone() })?;
     let settings = Settings { set_size: MOST.set_size, max_retries: 1, dfs_bound: 1000, ..draws::any_settings(&mut block.rng) };
     let given = prover_refusals::enough(settings, list);

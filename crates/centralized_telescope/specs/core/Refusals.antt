@@ -18,3 +18,4 @@ refusalNumber refusal.NoTicket = 41  -- 02, N1 and N7, the reader: layout, numbe
 refusalNumber refusal.BufferShort = 42  -- a buffer to write into
 refusalNumber refusal.Figures = 43  -- 02, N6: a security figure
 refusalNumber refusal.NoSize = 44  -- 02, N6: no size up to 1,024
+refusalNumber refusal.PoolTooLarge = 45  -- 02, N8: the pool's size

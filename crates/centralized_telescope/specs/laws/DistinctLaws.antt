@@ -42,7 +42,7 @@ differing xs ys n = go (sameBytes xs ys) refl
 
 -- ---- elements
 
-element-same : (e : Element) → sameElement e e ≡ true
+pub element-same : (e : Element) → sameElement e e ≡ true
 unfolding sameElement
 element-same e =
     rw (bytes-same (e .bytes), eq-eqb (markOf (e .index)) (markOf (e .index)) refl, eq-eqb (numberOf (e .index)) (numberOf (e .index)) refl)
@@ -63,13 +63,15 @@ other-element e f n = go (sameElement e f) refl
 
 -- ---- lists
 
-none-same : (e : Element) (es : List Element) → not (someOf (sameElement e) es) ≡ true → (j : ℕ) → j < length es → e ≡ elementAt es j → ⊥
+pub none-same : (e : Element) (es : List Element) → not (someOf (sameElement e) es) ≡ true → (j : ℕ) → j < length es → e ≡ elementAt es j
+    → ⊥
 unfolding someOf elementAt
 none-same e [] n j l q = omega arith
 none-same e (x ∷ es) n zero l q = not-both (rw q (element-same x)) (neither (sameElement e x) (not-true _ n) .0)
 none-same e (x ∷ es) n (suc j) l q = none-same e es (rw (neither (sameElement e x) (not-true _ n) .1) refl) j (omega arith) q
 
-same-none : (e : Element) (es : List Element) → ((j : ℕ) → j < length es → e ≡ elementAt es j → ⊥) → not (someOf (sameElement e) es) ≡ true
+pub same-none : (e : Element) (es : List Element) → ((j : ℕ) → j < length es → e ≡ elementAt es j → ⊥) → not (someOf (sameElement e) es) ≡
+    true
 unfolding someOf elementAt
 same-none e [] f = refl
 same-none e (x ∷ es) f = rw (other-element e x (f 0 (omega arith))) (same-none e es (λ j l. f (suc j) (omega arith)))

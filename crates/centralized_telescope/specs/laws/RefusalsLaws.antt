@@ -19,3 +19,4 @@ refusal-number refusal.NoTicket e = omega arith
 refusal-number refusal.BufferShort e = omega arith
 refusal-number refusal.Figures e = omega arith
 refusal-number refusal.NoSize e = omega arith
+refusal-number refusal.PoolTooLarge e = omega arith

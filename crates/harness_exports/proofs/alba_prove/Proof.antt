@@ -1,6 +1,7 @@
 -- `alba_prove`: the answer of `prove` in numbers.
 use mathlib.Core.Path.{ap, _∙_}
 use Rattle.centralized_telescope.specs.core.Elements.{Lent, lentOf}
+use Rattle.centralized_telescope.specs.core.Prover.{proved as provedBySettings}
 use Rattle.centralized_telescope.specs.declared.params.Params.{Params}
 use Rattle.harness_exports.specs.Exported.{exportedProve}
 use Rattle.harness_exports.proofs.ProverNumbers.{exported-so}
@@ -50,10 +51,11 @@ same-length-3 : tie.Need-same-length-3
 same-length-3 c = search needs
 
 returns : tie.Need-returns
+unfolding exportedProve
 returns c =
     let a = entry c .args in
-    exported-so (settings-made c .settings-of .result) (lent c) (a .places .now) (a .table .now) (a .out .now) (proved c .prove .result)
-    _ _ _ _
+    exported-so (provedBySettings (settings-made c .settings-of .result) (lent c) (a .places .now) (a .table .now)) (a .out .now)
+    (proved c .prove .result) _ _ _ _
     (proved c .prove .ensures) (numbers-made c .numbers-of .ensures) (counters-put c .put-counters .ensures)
     ∙ ap (λ (p : Params). exportedProve p (lent c) (a .places .now) (a .table .now) (a .out .now)) (settings-made c .settings-of .ensures)
 

@@ -1,12 +1,12 @@
 -- Visit and walk call each other. The number that falls is made of the remaining length and the remaining places of a bin.
-use mathlib.Core.Path.{_≡_, ap, sym, _∙_, subst}
+use mathlib.Core.Path.{_≡_, refl, ap, sym, _∙_, subst}
 use mathlib.Core.Logic.{⊎-elim}
 use mathlib.Core.List.{List}
 use Prim.Native.Nat.{ℕ, _+_, _-_, _≤_, _<_}
 use native.Mathlib.Omega.{arith}
 use borrow.Author.Needs.{needs}
 use lib.ListN.{length, take}
-use lib.Seq.{slice, length-take-le}
+use lib.Seq.{length-take-le}
 use Rattle.centralized_telescope.specs.core.Chains.{Try}
 use Rattle.centralized_telescope.specs.core.Search.{binsOf}
 use Rattle.centralized_telescope.specs.inner.RoundAnswers.{idOption}
@@ -38,28 +38,28 @@ use Rattle.centralized_telescope.proofs.search.+visit+walk.{statement}
 use Rattle.centralized_telescope.proofs.search.+visit+walk.Tie.{close}
 
 -- the arguments by name: table, depth and, of a walk, from and to
-abbrev μ-visit : Measures 6 visit-kinds.ps ℕ
+abbrev μ-visit : Measures 10 visit-kinds.ps ℕ
 μ-visit κs a =
-    let (p, (_, (_, (_, (_, (_, (_, (table, (_, (_, (_, (depth, _)))))))))))) = a in
+    let (p, (_, (_, (_, (_, (_, (_, (_, (_, (_, (_, (_, (table, (_, (_, (_, (depth, _))))))))))))))))) = a in
     let l : ℕ = length (table .now) in
     left (p .«proof_size» - depth) l (l + 1)
 
-abbrev μ-walk : Measures 6 walk-kinds.ps ℕ
+abbrev μ-walk : Measures 10 walk-kinds.ps ℕ
 μ-walk κs a =
-    let (p, (_, (_, (_, (_, (_, (_, (table, (_, (_, (depth, (from, (to, _))))))))))))) = a in
+    let (p, (_, (_, (_, (_, (_, (_, (_, (_, (_, (_, (_, (table, (_, (_, (depth, (from, (to, _)))))))))))))))))) = a in
     left (p .«proof_size» - depth) (length (table .now)) (to - from)
 
-abbrev visit-at : ℕ → In 6 visit-kinds.ps
-visit-at t = and 6 visit-kinds.ps (is 6 visit-kinds.ps μ-visit t) visit.Pre
+abbrev visit-at : ℕ → In 10 visit-kinds.ps
+visit-at t = and 10 visit-kinds.ps (is 10 visit-kinds.ps μ-visit t) visit.Pre
 
-abbrev visit-below : ℕ → In 6 visit-kinds.ps
-visit-below t = and 6 visit-kinds.ps (falls 6 visit-kinds.ps _<_ μ-visit t) visit.Pre
+abbrev visit-below : ℕ → In 10 visit-kinds.ps
+visit-below t = and 10 visit-kinds.ps (falls 10 visit-kinds.ps _<_ μ-visit t) visit.Pre
 
-abbrev walk-at : ℕ → In 6 walk-kinds.ps
-walk-at t = and 6 walk-kinds.ps (is 6 walk-kinds.ps μ-walk t) walk.Pre
+abbrev walk-at : ℕ → In 10 walk-kinds.ps
+walk-at t = and 10 walk-kinds.ps (is 10 walk-kinds.ps μ-walk t) walk.Pre
 
-abbrev walk-below : ℕ → In 6 walk-kinds.ps
-walk-below t = and 6 walk-kinds.ps (falls 6 walk-kinds.ps _<_ μ-walk t) walk.Pre
+abbrev walk-below : ℕ → In 10 walk-kinds.ps
+walk-below t = and 10 walk-kinds.ps (falls 10 walk-kinds.ps _<_ μ-walk t) walk.Pre
 
 -- what the calls of each promise
 abbrev visit-claims : ℕ → visit-lts.Claims
@@ -83,15 +83,15 @@ walk-claims t = (
 
 module _ (t : ℕ) where
   -- a need of a visit, where the measure is t
-  abbrev Visiting : (visit-lts.Claims → In 6 visit-kinds.ps → Out 6 visit-kinds.ps visit-kinds.r → Type 0) → Type 0
+  abbrev Visiting : (visit-lts.Claims → In 10 visit-kinds.ps → Out 10 visit-kinds.ps visit-kinds.r → Type 0) → Type 0
   Visiting N = N (visit-claims t) (visit-at t) visit.Post
 
   -- where the call began: from the short of the two ways, by its bin, and from the other, by its last hash
   abbrev visit-by-bin : Visiting visit-lts.Then1 → Visiting visit-lts.Start
-  visit-by-bin s = s .before .before .before .before .before .before .before
+  visit-by-bin s = s .before .before .before .before .before .before .before .before .before .before .before .before
 
   abbrev visit-by-hash : Visiting visit-lts.Else1 → Visiting visit-lts.Start
-  visit-by-hash s = s .before .before .before .before .before .before .before
+  visit-by-hash s = s .before .before .before .before .before .before .before .before .before .before .before .before
 
   -- where the bin's span is known, from where its walk has ended, and from where the lent places are known again
   abbrev visit-spanned : Visiting visit-lts.After-walk → Visiting visit-lts.After-span-of
@@ -103,7 +103,7 @@ module _ (t : ℕ) where
   -- what it is called with
   module _ (o : Visiting visit-lts.Start) where
     abbrev visit-source : Source
-    visit-source = let a = o .args in sourceNow a.«data» a.ends a.marks a.indexes
+    visit-source = let a = o .args in sourceNow a.«data» a.ends a.marks a.indexes a.data2 a.ends2 a.marks2 a.indexes2 a.added
 
     abbrev visit-try : Try
     visit-try = tryOn (o .args .p) visit-source (o .args .retry .0)
@@ -117,7 +117,7 @@ module _ (t : ℕ) where
 
     -- an array's length is known by its parameter's place among the others
     abbrev visit-array : length (o .args .path) ≡ 1024
-    visit-array = o .good .1 .1 .1 .1 .1 .1 .1 .1 .1 .1 .0 .1 .0 .1
+    visit-array = o .good .1 .1 .1 .1 .1 .1 .1 .1 .1 .1 .1 .1 .1 .1 .1 .0 .1 .0 .1
 
     -- the path below the depth is as long as that
     visit-path-long : length visit-path ≡ o .args .depth
@@ -182,8 +182,8 @@ module _ (t : ℕ) where
   visit-counts : (s : Visiting visit-lts.After-proof-hash) → visit-by-hash (s .before) .args .steps + 1 ≤ 18446744073709551615
   visit-counts s = let k = visit-asked (visit-by-hash (s .before)) in omega (arith, k .within, bound-most (k .ready))
 
-  visit-add-t24 : Visiting visit-lts.Need-add-t24
-  visit-add-t24 c = omega (arith, visit-counts (c .before))
+  visit-add-t29 : Visiting visit-lts.Need-add-t29
+  visit-add-t29 c = omega (arith, visit-counts (c .before))
 
   visit-returns-2 : Visiting visit-lts.Need-returns-2
   visit-returns-2 c =
@@ -197,8 +197,8 @@ module _ (t : ℕ) where
       (omega (arith, full, k .deep)) (sym (s .proof-hash .ensures) ∙ c .if2 .taken))
       (a .places .now) full
 
-  visit-add-t25 : Visiting visit-lts.Need-add-t25
-  visit-add-t25 c = omega (arith, visit-counts (c .before))
+  visit-add-t30 : Visiting visit-lts.Need-add-t30
+  visit-add-t30 c = omega (arith, visit-counts (c .before))
 
   visit-returns-3 : Visiting visit-lts.Need-returns-3
   visit-returns-3 c =
@@ -215,9 +215,10 @@ module _ (t : ℕ) where
 -- ---- the walk
 
 abbrev walk-Inv-loop : walk-lts.InvT-loop
-walk-Inv-loop p retry search «data» ends marks indexes table h depth from to steps places₀ size count₀ i₀ next₀ places count i next =
+walk-Inv-loop p retry search «data» ends marks indexes data2 ends2 marks2 indexes2 added table h depth from to steps places₀ size count₀
+    i₀ next₀ places count i next =
     Looping (record {
-      of = tryOn p (sourceOf «data» ends marks indexes) (retry .0);
+      of = tryOn p (sourceOf «data» ends marks indexes data2 ends2 marks2 indexes2 added) (retry .0);
       search = search .0;
       hash = h;
       path = take depth next₀;
@@ -230,17 +231,18 @@ walk-Inv-loop p retry search «data» ends marks indexes table h depth from to s
     }) i count next places
 
 abbrev walk-μ-loop : walk-lts.MeasureT-loop
-walk-μ-loop p retry search «data» ends marks indexes table h depth from to steps places₀ size count₀ i₀ next₀ places count i next = to - i
+walk-μ-loop p retry search «data» ends marks indexes data2 ends2 marks2 indexes2 added table h depth from to steps places₀ size count₀ i₀
+    next₀ places count i next = to - i
 
 module _ (t : ℕ) where
   -- a need of a walk, where the measure is t
-  abbrev Walking : (walk-lts.Claims → In 6 walk-kinds.ps → Out 6 walk-kinds.ps walk-kinds.r → walk-lts.InvT-loop → walk-lts.MeasureT-loop
+  abbrev Walking : (walk-lts.Claims → In 10 walk-kinds.ps → Out 10 walk-kinds.ps walk-kinds.r → walk-lts.InvT-loop → walk-lts.MeasureT-loop
       → Type 0) → Type 0
   Walking N = N (walk-claims t) (walk-at t) walk.Post walk-Inv-loop walk-μ-loop
 
   -- where the call began, from the head of the loop
   abbrev walk-entry : Walking walk-lts.At-loop → Walking walk-lts.Start
-  walk-entry s = s .before .before .before .before .before .before .before
+  walk-entry s = s .before .before .before .before .before .before .before .before .before .before .before .before
 
   -- the head of the loop, from where the count has reached the bound, and from where it hasn't
   abbrev walk-stopped : Walking walk-lts.Then1 → Walking walk-lts.At-loop
@@ -283,7 +285,7 @@ module _ (t : ℕ) where
   -- what it is called with
   module _ (o : Walking walk-lts.Start) where
     abbrev walk-source : Source
-    walk-source = let a = o .args in sourceNow a.«data» a.ends a.marks a.indexes
+    walk-source = let a = o .args in sourceNow a.«data» a.ends a.marks a.indexes a.data2 a.ends2 a.marks2 a.indexes2 a.added
 
     abbrev walk-try : Try
     walk-try = tryOn (o .args .p) walk-source (o .args .retry .0)
@@ -340,17 +342,27 @@ module _ (t : ℕ) where
 
   -- the lent places after a visit, by their place among its arguments: as many as were lent
   abbrev walk-left : Walking walk-lts.After-visit → List ℕ
-  walk-left s = s .visit .last .1 .1 .1 .1 .1 .1 .1 .1 .1 .1 .1 .1 .1 .0
+  walk-left s = s .visit .last .1 .1 .1 .1 .1 .1 .1 .1 .1 .1 .1 .1 .1 .1 .1 .1 .1 .1 .0
 
   walk-as-many : (s : Walking walk-lts.After-visit)
       → (let v = walk-head (walk-drawn (walk-met s)) in
       length (walk-left s) ≡ length (walk-entry v .args .places .now))
   walk-as-many s =
       let v = walk-head (walk-drawn (walk-met s)) in
-      s .visit .kept .1 .1 .1 .1 .1 .1 .1 .1 .1 .1 .1 .1 .1 .0 ∙ ap length (v .loop .inv .as-lent)
+      s .visit .kept .1 .1 .1 .1 .1 .1 .1 .1 .1 .1 .1 .1 .1 .1 .1 .1 .1 .1 .0 ∙ ap length (v .loop .inv .as-lent)
 
   walk-loop-holds : Walking walk-lts.Need-loop-holds
-  walk-loop-holds c = search needs
+  walk-loop-holds c =
+      let o = c .before .before .before .before .before .before .before .before .before .before .before in
+      record {
+        low = omega arith;
+        high = walk-asked o .span .order;
+        most = walk-asked o .within;
+        long = o .good .1 .1 .1 .1 .1 .1 .1 .1 .1 .1 .1 .1 .1 .1 .0 .1 .0 .1;
+        path-is = refl;
+        as-lent = refl;
+        still = refl;
+      }
 
   walk-same-length : Walking walk-lts.Need-same-length
   walk-same-length c = search needs
@@ -361,7 +373,7 @@ module _ (t : ℕ) where
   walk-mul-place : Walking walk-lts.Need-mul-place
   walk-mul-place c =
       let k = walk-asked (walk-entry (walk-turn c)) in
-      omega (arith, k .span .within, walk-inside c)
+      omega (arith, k .span .within, walk-inside c, walk-entry (walk-turn c) .good .1 .1 .1 .1 .1 .1 .1 .1 .1 .1 .1 .1 .0)
 
   walk-shared-slice-read-place : Walking walk-lts.Need-shared-slice-read-place
   walk-shared-slice-read-place c =
@@ -394,7 +406,7 @@ module _ (t : ℕ) where
       omega (arith, walk-deep (walk-entry v), v .loop .inv .long)
 
   walk-add-visit : Walking walk-lts.Need-add-visit
-  walk-add-visit c = search needs
+  walk-add-visit c = omega (arith, walk-deep (walk-entry (walk-head (walk-drawn c))))
 
   walk-visit-requires : Walking walk-lts.Need-visit-requires
   walk-visit-requires c κs =
@@ -499,9 +511,9 @@ pub +visit+walk-spec : {M : Type 1} → statement M
     (visit-same-length t)
     (visit-returns t)
     (visit-proof-hash-requires t)
-    (visit-add-t24 t)
+    (visit-add-t29 t)
     (visit-returns-2 t)
-    (visit-add-t25 t)
+    (visit-add-t30 t)
     (visit-returns-3 t))
     λ t. walk-lts.spec (walk-claims t)
     (walk-at t)

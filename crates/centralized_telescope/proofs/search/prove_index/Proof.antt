@@ -17,15 +17,15 @@ use Rattle.centralized_telescope.proofs.search.prove_index.Statement.{s
 use Rattle.centralized_telescope.proofs.search.prove_index.Tie as tie
 
 abbrev Inv-loop : tie.InvT-loop
-Inv-loop p retry «data» ends marks indexes table places₀ count₀ s₀ places count s =
-    Trying (tryOn p (sourceOf «data» ends marks indexes) (retry .0)) s count places places₀
+Inv-loop p retry «data» ends marks indexes data2 ends2 marks2 indexes2 added table places₀ count₀ s₀ places count s =
+    Trying (tryOn p (sourceOf «data» ends marks indexes data2 ends2 marks2 indexes2 added) (retry .0)) s count places places₀
 
 abbrev μ-loop : tie.MeasureT-loop
-μ-loop p retry «data» ends marks indexes table places₀ count₀ s₀ places count s = p .«search_width» - s
+μ-loop p retry «data» ends marks indexes data2 ends2 marks2 indexes2 added table places₀ count₀ s₀ places count s = p .«search_width» - s
 
 -- where the call began, from where the slices are known, as at the head of the loop
 abbrev entry : tie.After-slice-known Inv-loop μ-loop → tie.Start Inv-loop μ-loop
-entry s = s .before .before .before .before .before .before
+entry s = s .before .before .before .before .before .before .before .before .before .before .before
 
 -- the head of the loop, from its test, and the test, from where the count has reached the bound, and from where it hasn't
 abbrev turn : tie.Then1 Inv-loop μ-loop → tie.At-loop Inv-loop μ-loop
@@ -54,7 +54,7 @@ visited-at s = s .before .before .before .before .before
 -- what it is called with
 module _ (o : tie.Start Inv-loop μ-loop) where
   abbrev the-source : Source
-  the-source = let a = o .args in sourceNow a.«data» a.ends a.marks a.indexes
+  the-source = let a = o .args in sourceNow a.«data» a.ends a.marks a.indexes a.data2 a.ends2 a.marks2 a.indexes2 a.added
 
   abbrev the-try : Try
   the-try = tryOn (o .args .p) the-source (o .args .retry .0)
@@ -118,7 +118,7 @@ same-length-2 : tie.Need-same-length-2 Inv-loop μ-loop
 same-length-2 c =
     let s = visited-at c in
     let v = turn (open-turn (started (drawn-at (met s)))) in
-    s .visit .kept .1 .1 .1 .1 .1 .1 .1 .1 .1 .1 .1 .1 .1 .0 ∙ ap length (v .loop .inv .as-lent)
+    s .visit .kept .1 .1 .1 .1 .1 .1 .1 .1 .1 .1 .1 .1 .1 .1 .1 .1 .1 .1 .0 ∙ ap length (v .loop .inv .as-lent)
 
 returns-2 : tie.Need-returns-2 Inv-loop μ-loop
 returns-2 c =

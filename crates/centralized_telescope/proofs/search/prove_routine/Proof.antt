@@ -13,15 +13,15 @@ use Rattle.centralized_telescope.proofs.search.prove_routine.Statement.
 use Rattle.centralized_telescope.proofs.search.prove_routine.Tie as tie
 
 abbrev Inv-loop : tie.InvT-loop
-Inv-loop p «data» ends marks indexes places₀ table₀ steps₀ r₀ places table steps r =
-    Retrying p (meant (sourceOf «data» ends marks indexes)) r steps table table₀ places places₀
+Inv-loop p «data» ends marks indexes data2 ends2 marks2 indexes2 added places₀ table₀ steps₀ r₀ places table steps r =
+    Retrying p (meant (sourceOf «data» ends marks indexes data2 ends2 marks2 indexes2 added)) r steps table table₀ places places₀
 
 abbrev μ-loop : tie.MeasureT-loop
-μ-loop p «data» ends marks indexes places₀ table₀ steps₀ r₀ places table steps r = p .«max_retries» - r
+μ-loop p «data» ends marks indexes data2 ends2 marks2 indexes2 added places₀ table₀ steps₀ r₀ places table steps r = p .«max_retries» - r
 
 -- where the call began, from where the slices are known, as at the head of the loop
 abbrev entry : tie.After-slice-known2 Inv-loop μ-loop → tie.Start Inv-loop μ-loop
-entry s = s .before .before .before .before .before .before
+entry s = s .before .before .before .before .before .before .before .before .before .before .before
 
 -- the head of the loop, from its test, either way, and the test, from where the table is filled
 abbrev turn : tie.Then1 Inv-loop μ-loop → tie.At-loop Inv-loop μ-loop
@@ -56,17 +56,17 @@ below-bound s = s .before .before
 
 -- what it is called with
 abbrev the-source : tie.Start Inv-loop μ-loop → Source
-the-source o = let a = o .args in sourceNow a.«data» a.ends a.marks a.indexes
+the-source o = let a = o .args in sourceNow a.«data» a.ends a.marks a.indexes a.data2 a.ends2 a.marks2 a.indexes2 a.added
 
 -- the table after `fill_table` and the places after `prove_index`, by their places among the arguments: as many as were lent
 abbrev table-left : tie.After-fill-table Inv-loop μ-loop → List ℕ
-table-left s = s .fill-table .last .1 .1 .1 .1 .1 .1 .0
+table-left s = s .fill-table .last .1 .1 .1 .1 .1 .1 .1 .1 .1 .1 .1 .0
 
 table-as-long : (s : tie.After-fill-table Inv-loop μ-loop) → length (table-left s) ≡ length (turn (test s) .loop .table)
-table-as-long s = s .fill-table .kept .1 .1 .1 .1 .1 .1 .0
+table-as-long s = s .fill-table .kept .1 .1 .1 .1 .1 .1 .1 .1 .1 .1 .1 .0
 
 abbrev places-left : tie.After-prove-index Inv-loop μ-loop → List ℕ
-places-left s = s .prove-index .last .1 .1 .1 .1 .1 .1 .1 .0
+places-left s = s .prove-index .last .1 .1 .1 .1 .1 .1 .1 .1 .1 .1 .1 .1 .0
 
 -- what a turn knows where a try is made
 attempted : (s : tie.After-prove-index Inv-loop μ-loop)
@@ -122,15 +122,15 @@ prove-index-requires c κs =
 enum-known-one : tie.Need-enum-known-one Inv-loop μ-loop
 enum-known-one c = search needs
 
-add-t24 : tie.Need-add-t24 Inv-loop μ-loop
-add-t24 c =
+add-t29 : tie.Need-add-t29 Inv-loop μ-loop
+add-t29 c =
     let s = made-found c in
     omega (arith, sum-fits s _ (found-within (attempted s) (c .before .one .given .1)))
 
 same-length : tie.Need-same-length Inv-loop μ-loop
 same-length c =
     let s = made-found c in
-    s .prove-index .kept .1 .1 .1 .1 .1 .1 .1 .0 ∙ ap length (turn (test (filled s)) .loop .inv .as-lent)
+    s .prove-index .kept .1 .1 .1 .1 .1 .1 .1 .1 .1 .1 .1 .1 .0 ∙ ap length (turn (test (filled s)) .loop .inv .as-lent)
 
 same-length-2 : tie.Need-same-length-2 Inv-loop μ-loop
 same-length-2 c =
@@ -183,7 +183,7 @@ prove-routine-spec =
     fill-table-requires
     prove-index-requires
     enum-known-one
-    add-t24
+    add-t29
     same-length
     same-length-2
     returns

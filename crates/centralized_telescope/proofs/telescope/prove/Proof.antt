@@ -1,10 +1,12 @@
 -- `prove`: the refusals, then the tries.
 use mathlib.Core.Path.{_≡_, sym, ap, _∙_}
+use mathlib.Core.List.{List}
 use lib.ListN.{length}
 use Rattle.centralized_telescope.specs.core.Params.{checkedBy}
-use Rattle.centralized_telescope.specs.core.Elements.{Lent}
+use Rattle.centralized_telescope.specs.core.Elements.{Element, Lent}
+use Rattle.centralized_telescope.specs.laws.SourceLaws.{one-readable, one-meant}
 use Rattle.centralized_telescope.specs.inner.ListReading.{lentNow}
-use Rattle.centralized_telescope.specs.core.Prover.{proverRefusal}
+use Rattle.centralized_telescope.specs.core.Prover.{bySearch, proverRefusal}
 use Rattle.centralized_telescope.proofs.ProveAnswers.{run-refused, run-served, run-lawful}
 use borrow.Author.Needs.{needs}
 use Rattle.centralized_telescope.proofs.telescope.prove.Statement.{statement}
@@ -23,7 +25,7 @@ begun s = entry (run-checked s)
 
 -- there from the search's call
 abbrev passed : tie.After-prove-routine → tie.After-enum-told
-passed s = s .before .before .before
+passed s = s .before .before .before .before
 
 -- from a refusal back to the check that gave it, and from the end to the search
 abbrev refused-at : tie.After-known-told → tie.After-check-run
@@ -57,12 +59,15 @@ returns c =
     let says = sym (at .check-run .ensures) ∙ ap checkedBy (k .1) in
     sym (run-refused (a .p) (lent (entry at)) (a .places .now) (a .table .now) (k .0 .0) says)
 
+slice-aggregate-prove-routine : tie.Need-slice-aggregate-prove-routine
+slice-aggregate-prove-routine c = search needs
+
 prove-routine-requires : tie.Need-prove-routine-requires
 prove-routine-requires c κs =
-    let s = c .before .before in
+    let s = c .before .before .before in
     let a = begun s .args in
     let S = run-lawful (a .p) (lent (begun s)) (a .places .now) (a .table .now) (none-refused s) in
-    (S .settings, S .list, S .places-enough, S .table-enough)
+    (S .settings, one-readable (lent (begun s)) (S .list), S .places-enough, S .table-enough)
 
 same-length : tie.Need-same-length
 same-length c = search needs
@@ -75,7 +80,9 @@ returns-2 c =
     let at = search-made c in
     let s = passed at in
     let a = begun s .args in
-    at .prove-routine .ensures ∙ sym (run-served (a .p) (lent (begun s)) (a .places .now) (a .table .now) (none-refused s))
+    at .prove-routine .ensures
+    ∙ ap (λ (es : List Element). bySearch (a .p) es (a .places .now) (a .table .now)) (one-meant (lent (begun s)))
+    ∙ sym (run-served (a .p) (lent (begun s)) (a .places .now) (a .table .now) (none-refused s))
 
 pub prove-spec : {M : Type 1} → statement M
 prove-spec =
@@ -85,6 +92,7 @@ prove-spec =
     enum-told
     enum-known-k
     returns
+    slice-aggregate-prove-routine
     prove-routine-requires
     same-length
     same-length-2
