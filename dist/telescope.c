@@ -1014,8 +1014,11 @@ static uint32_t centralized_telescope_errors_refusal_number(struct centralized_t
         l2 = UINT32_C(44);
         break;
     case UINT8_C(13):
-    default:
         l2 = UINT32_C(45);
+        break;
+    case UINT8_C(14):
+    default:
+        l2 = UINT32_C(46);
         break;
     }
     l0 = l2;

@@ -9,7 +9,7 @@ usage: harness compare [--cases N] [--seed S]
        harness sizes --minutes N | --seconds N | --turns N [--seed S]
        harness model [--functions N] [--seed S]
        harness answers [--seed S]
-       harness bench [--steps | --tickets | --distinctness | --sizes | --pools]
+       harness bench [--steps | --tickets | --distinctness | --sizes | --pools | --prepare]
        harness stack
        harness --help
 
@@ -18,8 +18,8 @@ compare   Runs the verified library and the original Rust on the same inputs and
   --cases N   random inputs for each of the uniform sampler, the Bernoulli sampler by q and by X, the converter and planning, N / 20
               messages to hash, N / 20 of the small case, N / 10 lists for distinctness, N / 10 small searches, N / 20 by X, N / 100 bad
               inputs for each of prover and verifier, N / 50 lists for tickets, each with five changed tickets, N / 1000 with each wrong
-              number of blocks, N / 200 searches with what was planned, N / 40 security figures, and N / 400 times two lists pooled
-              (default 2000000)
+              number of blocks, N / 200 searches with what was planned, N / 40 security figures, N / 400 times two lists pooled, and
+              N / 400 runs prepared and committed (default 2000000)
   --seed S    decimal, or hexadecimal after 0x (default: from the clock; it is printed)
           It ends with a line of counts, or with the first case that differs and status 1.
 
@@ -58,6 +58,7 @@ bench     Prints a Markdown table of speeds: the library, the Rust and OpenSSL, 
   --distinctness   the time of the check of distinctness alone
   --sizes     the time of the proof size alone
   --pools     the time of pooling and of searches over a pool alone
+  --prepare   the speed of prepare alone
 
 stack     Says how much stack a search of the greatest length takes, on a list and over a pool of two full lists.
 ";
@@ -119,6 +120,8 @@ pub enum Bench {
     Sizes,
     /// Two lists pooled.
     Pools,
+    /// Prepare.
+    Prepare,
     /// The rows for one of OpenSSL's other settings, for which the benchmark starts itself again.
     #[cfg_attr(not(feature = "bench"), allow(dead_code))]
     OpenSsl(usize),
@@ -166,6 +169,7 @@ fn bench(mut words: impl Iterator<Item = String>) -> Result<Bench, String> {
         Some("--distinctness") => Bench::Distinctness,
         Some("--sizes") => Bench::Sizes,
         Some("--pools") => Bench::Pools,
+        Some("--prepare") => Bench::Prepare,
         Some(AGAIN) => Bench::OpenSsl(words.next().and_then(|word| word.parse().ok()).ok_or("a setting's number is wanted")?),
         Some(word) => return Err(format!("bench has no `{word}`")),
     };

@@ -70,6 +70,19 @@ extern "C" {
         marks2: *const u8, marks2_len: usize, indexes2: *const u64, indexes2_len: usize,
         places: *mut u32, places_len: usize, table: *mut u32, table_len: usize, out: *mut u64, out_len: usize,
     ) -> u32;
+    fn alba_prepare(
+        set_size: u64, proof_size: u64, max_retries: u64, search_width: u64, dfs_bound: u64, x_high: u64, x_low: u64,
+        data: *const u8, data_len: usize, ends: *const u32, ends_len: usize,
+        marks: *const u8, marks_len: usize, indexes: *const u64, indexes_len: usize,
+        places: *const u32, places_len: usize, table: *const u32, table_len: usize, out: *mut u8, out_len: usize,
+    ) -> u32;
+    fn alba_commit(
+        set_size: u64, proof_size: u64, max_retries: u64, search_width: u64, dfs_bound: u64, x_high: u64, x_low: u64,
+        digest: *const u8, digest_len: usize,
+        data: *const u8, data_len: usize, ends: *const u32, ends_len: usize,
+        marks: *const u8, marks_len: usize, indexes: *const u64, indexes_len: usize,
+        places: *mut u32, places_len: usize, table: *mut u32, table_len: usize, out: *mut u64, out_len: usize,
+    ) -> u32;
 }
 
 /// set_size is out of range.
@@ -122,6 +135,8 @@ pub const BAD_FIGURES: u32 = 43;
 pub const NO_SIZE: u32 = 44;
 /// Two lists pooled have too many elements.
 pub const POOL_TOO_LARGE: u32 = 45;
+/// A digest that isn't that of what is to be searched.
+pub const RUN_CHANGED: u32 = 46;
 /// The most bytes that the four strings of a hash may have together.
 pub const LONGEST: usize = 1 << 29;
 
@@ -386,6 +401,54 @@ pub fn prove_pool(
             s.set_size, s.proof_size, s.max_retries, s.search_width, s.dfs_bound, x_high, x_low,
             data, data_len, ends, ends_len, marks, marks_len, indexes, indexes_len,
             data2, data2_len, ends2, ends2_len, marks2, marks2_len, indexes2, indexes2_len,
+            places, places_len, table, table_len, out, out_len,
+        )
+    }
+}
+
+/// `BAD_LENGTH` (out not of 32 bytes), then the number of the prover's refusal, `out` untouched in each; or 0 with the digest in `out`.
+/// Of places and bin table only the lengths count.
+#[rustfmt::skip]
+pub fn prepare(
+    s: &Settings,
+    list: Listed<u32, u64>,
+    places: Lent<u32>,
+    table: Lent<u32>,
+    out: &mut (impl Place + ?Sized),
+) -> u32 {
+    let ((data, data_len), (ends, ends_len)) = (parts(list.data), parts(list.ends));
+    let ((marks, marks_len), (indexes, indexes_len)) = (parts(list.marks), parts(list.indexes));
+    let ((places, places_len), (table, table_len), (out, out_len)) = (parts(places), parts(table), out.parts());
+    let [x_high, x_low] = threshold::halves(s.x.x());
+    // SAFETY: each pointer is valid for its length, out for reads and writes and the others for reads.
+    unsafe {
+        alba_prepare(
+            s.set_size, s.proof_size, s.max_retries, s.search_width, s.dfs_bound, x_high, x_low,
+            data, data_len, ends, ends_len, marks, marks_len, indexes, indexes_len,
+            places, places_len, table, table_len, out, out_len,
+        )
+    }
+}
+
+/// `BAD_LENGTH` (the digest not of 32 bytes) with nothing written; else as `prove`, with `RUN_CHANGED` behind the prover's refusals.
+#[rustfmt::skip]
+pub fn commit(
+    s: &Settings,
+    digest: Lent,
+    list: Listed<u32, u64>,
+    places: &mut (impl Place<u32> + ?Sized),
+    table: &mut (impl Place<u32> + ?Sized),
+    out: &mut (impl Place<u64> + ?Sized),
+) -> u32 {
+    let ((data, data_len), (ends, ends_len)) = (parts(list.data), parts(list.ends));
+    let ((marks, marks_len), (indexes, indexes_len)) = (parts(list.marks), parts(list.indexes));
+    let ((places, places_len), (table, table_len), (out, out_len)) = (places.parts(), table.parts(), out.parts());
+    let ((digest, digest_len), [x_high, x_low]) = (parts(digest), threshold::halves(s.x.x()));
+    // SAFETY: each pointer is valid for its length, those of digest and list for reads and the last three for reads and writes.
+    unsafe {
+        alba_commit(
+            s.set_size, s.proof_size, s.max_retries, s.search_width, s.dfs_bound, x_high, x_low, digest, digest_len,
+            data, data_len, ends, ends_len, marks, marks_len, indexes, indexes_len,
             places, places_len, table, table_len, out, out_len,
         )
     }

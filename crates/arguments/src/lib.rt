@@ -7,6 +7,8 @@ mod report;
 mod settings;
 mod words;
 
+pub use numbers::ReadDigest;
+pub use numbers::digest;
 pub use numbers::whole_within;
 pub use settings::Asked;
 pub use settings::Figures;

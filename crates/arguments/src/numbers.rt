@@ -19,6 +19,12 @@ pub struct Wide {
     pub value: U128,
 }
 
+// The bytes of a digest, where an argument writes one.
+pub struct ReadDigest {
+    pub known: bool,
+    pub bytes: [u8; 32],
+}
+
 // What argument i writes in decimal.
 fn decimal_at(i: usize) -> Number {
     let mut word = [0u8; 32];
@@ -79,6 +85,19 @@ pub fn threshold(i: usize, name: &[u8]) -> Wide {
         say_wrong(i, name, b"32 hexadecimal digits, small letters");
     }
     read
+}
+
+// Argument i as the digest whose digits it writes, or a message.
+pub fn digest(i: usize, name: &[u8]) -> ReadDigest {
+    let mut word = [0u8; 64];
+    let n = os::arg(i, &mut word);
+    let mut bytes = [0u8; 32];
+    let read = hex::unhex(&word[..n], &mut bytes);
+    let known = read.known && read.len == 32;
+    if !known {
+        say_wrong(i, name, b"64 hexadecimal digits, small letters");
+    }
+    ReadDigest { known, bytes }
 }
 
 // A whole number as a double. From 65,536 on all are refused alike, so the double is 65,536.

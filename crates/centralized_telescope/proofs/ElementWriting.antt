@@ -14,6 +14,7 @@ use Rattle.centralized_telescope.specs.core.Elements.{Element, elementAt
 use Rattle.centralized_telescope.specs.later.Words.{markOf, numberOf}
 use Rattle.centralized_telescope.specs.core.Lists.{over}
 use Rattle.centralized_telescope.specs.later.ElementBytes.{headBytes, elementBytes, elementsBytes}
+use Rattle.centralized_telescope.specs.inner.Gathering.{Put}
 use Rattle.centralized_telescope.specs.inner.ListReading.{dataAt, indexAt}
 use Rattle.centralized_telescope.specs.laws.ElementsLaws.{index-again, data-there, index-there, length-elements, data-short}
 use Rattle.centralized_telescope.specs.laws.ElementBytesLaws.{length-element}
@@ -123,37 +124,32 @@ module _ (lent : Lent) (A : listCheck lent ≡ 0) (i : ℕ) (h : i < length (len
       bytes-there number N = rw (index-there lent A i h, own-there, K, N, index-again (indexAt m x i))
 
       -- head and data behind the elements before, which stand behind w
-      module _ (number : ℕ) (N : number ≡ numberOf (indexAt m x i)) (head : List ℕ)
-          (H : head ≡ headBytes (indexOf mark number) (length own))
-          (len : ℕ) (E : length head ≡ len) (w : List ℕ) (used : ℕ) (U : used ≡ length (w ++ elementsBytes (take i all))) where
+      module _ (number : ℕ) (N : number ≡ numberOf (indexAt m x i)) (w : List ℕ) where
         abbrev before : List ℕ
         before = w ++ elementsBytes (take i all)
 
-        behind : (before ++ head) ++ own ≡ w ++ elementsBytes (take (i + 1) all)
-        behind = rw
-            (append-assoc before head own, H, ← bytes-there number N, bytes-more all i in-all, append-assoc w (elementsBytes (take i all)))
+        abbrev head : List ℕ
+        head = headBytes (indexOf mark number) (length own)
 
-        with-head : used + len ≡ length (before ++ head)
-        with-head = omega (arith, length-append before head)
+        pub behind : before ++ (head ++ own) ≡ w ++ elementsBytes (take (i + 1) all)
+        behind = rw (← bytes-there number N, bytes-more all i in-all, append-assoc w (elementsBytes (take i all)))
 
-        pub used-more : used + len + length own ≡ length (w ++ elementsBytes (take (i + 1) all))
-        used-more = omega (arith, with-head, length-append (before ++ head) own, ap length behind)
-
-        pub used-within : used + len + length own ≤ length w + length (elementsBytes all)
-        used-within =
+        pub behind-within : length before + length head + length own ≤ length w + length (elementsBytes all)
+        behind-within =
             omega (
               arith,
-              used-more,
+              ap length behind,
+              length-append before (head ++ own),
+              length-append head own,
               ap length (bytes-more all i in-all),
               length-append (elementsBytes (take i all)) (elementBytes (elementAt all i)),
               length-append w (elementsBytes (take (i + 1) all)),
               bytes-within all i in-all,
             )
 
-        pub element-put : (was out out₁ out₂ : List ℕ) → out ≡ over before was
-            → out₁ ≡ take used out ++ (head ++ drop (used + length head) out)
-            → out₂ ≡ take (used + len) out₁ ++ (own ++ drop (used + len + length own) out₁)
-            → out₂ ≡ over (w ++ elementsBytes (take (i + 1) all)) was
-        element-put was out out₁ out₂ B C₁ C₂ =
-            put (before ++ head) own was (used + len) out₁ out₂ with-head (put before head was used out out₁ U B C₁) C₂
-            ∙ ap (λ (l : List ℕ). over l was) behind
+        module _ (was out after : List ℕ) (used to : ℕ) (U : used ≡ length before) (P : Put (head ++ own) used out after to) where
+          pub used-more : to ≡ length (w ++ elementsBytes (take (i + 1) all))
+          used-more = omega (arith, P .behind, length-append before (head ++ own), ap length behind)
+
+          pub element-put : out ≡ over before was → after ≡ over (w ++ elementsBytes (take (i + 1) all)) was
+          element-put B = put before (head ++ own) was used out after U B (P .written) ∙ ap (λ (l : List ℕ). over l was) behind

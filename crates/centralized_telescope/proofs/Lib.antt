@@ -18,6 +18,7 @@ mod CasesHold
 mod TicketsHold
 mod FirstLayoutHolds
 mod PlanHolds
+mod PrepareHolds
 -- round.rt
 mod RoundHashes
 -- bins.rt; BinCounting sort.rt too
@@ -66,6 +67,10 @@ mod NumbersRead
 mod ExportAnswers
 -- element_bytes.rt
 mod ElementWriting
+mod GatheringBytes
+-- preparing.rt
+mod RunHashing
+mod PrepareAnswers
 -- ticket.rt
 mod TicketWriting
 mod TicketReading

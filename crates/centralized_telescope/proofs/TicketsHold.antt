@@ -42,7 +42,7 @@ use Rattle.centralized_telescope.proofs.VerdictHolds.{of-numbers}
 
 -- ---- the elements of an accepted list whose indexes are of 64 bits
 
-fit-from : (from : ℕ) (d n m x : List ℕ) → Each (λ (v : ℕ). v < 2 ^ 64) x → dataLong from n ≡ false
+pub fit-from : (from : ℕ) (d n m x : List ℕ) → Each (λ (v : ℕ). v < 2 ^ 64) x → dataLong from n ≡ false
     → Each ElementFits (elementsFrom from d n m x)
 unfolding Each dataLong elementsFrom
 fit-from from d [] m x X l = tt

@@ -10,5 +10,6 @@ pub mod Visit
 pub mod Ordering
 pub mod Sorting
 pub mod Pooling
+pub mod Gathering
 pub mod TicketReading
 pub mod Digits

@@ -7,6 +7,8 @@ pub mod Distinct
 pub mod Pool
 pub mod ProofList
 pub mod ElementBytes
+pub mod Prepare
+pub mod PrepareClaims
 pub mod Blocks
 pub mod Tickets
 pub mod TicketClaims

@@ -26,6 +26,7 @@ pub mod BlocksReadLaws
 pub mod TicketsLaws
 pub mod TicketsReadLaws
 pub mod InBytesLaws
+pub mod PrepareLaws
 pub mod PlanLaws
 pub mod DigitsLaws
 pub mod ProofSizeLaws

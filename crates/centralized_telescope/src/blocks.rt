@@ -74,7 +74,7 @@ pub fn seal(out: &mut [u8], n: usize)
 // ---- Reading
 
 // Whether two strings of one length hold the same bytes.
-fn same_bytes(a: &[u8], b: &[u8]) -> bool
+pub fn same_bytes(a: &[u8], b: &[u8]) -> bool
     requires { ⌜ length (now a) ≡ length (now b) ⌝ }
     ensures { λ r. ⌜ r ≡ sameBytes (now (a .entry)) (now (b .entry)) ⌝ }
 {

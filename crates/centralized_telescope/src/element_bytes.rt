@@ -7,6 +7,7 @@ ghost use Rattle.centralized_telescope.specs.core.Lists.{over};
 ghost use Rattle.centralized_telescope.specs.core.Elements.{elements, indexOf, listCheck, lentAtEntry, maxDataBytes};
 ghost use Rattle.centralized_telescope.specs.later.ElementBytes.{headBytes, elementsBytes, maxHeadBytes};
 ghost use Rattle.centralized_telescope.specs.inner.ListReading.{lentNow};
+ghost use Rattle.centralized_telescope.specs.inner.Gathering.{Put};
 use crate::numbers::copy_at;
 use crate::types::data_of;
 use crate::types::index_of;
@@ -41,6 +42,22 @@ pub fn element_head(mark: u8, index: u64, size: usize) -> ElementHead
         bytes: bytes,
         len: MAX_HEAD_BYTES,
     }
+}
+
+// Writes an element to the offset `from` of a buffer that has room for it: the offset behind it.
+pub fn put_element(mark: u8, index: u64, own: &[u8], from: usize, out: &mut [u8]) -> usize
+    requires { ⌜ (length (now own) ≤ maxDataBytes)
+        × (from + length (headBytes (indexOf mark «index») (length (now own))) + length (now own) ≤ length (now out)) ⌝ }
+    ensures { λ r. ⌜ Put (headBytes (indexOf mark «index») (length (now (own .entry))) ++ now (own .entry)) from (now (out .entry))
+        (now (out .exit)) r ⌝ }
+{
+    let head = element_head(mark, index, own.len());
+    let bytes = head.bytes;
+    let len = head.len;
+    let data = from + len;
+    copy_at(&bytes[..len], from, out);
+    copy_at(own, data, out);
+    data + own.len()
 }
 
 // How many bytes the elements of an accepted list take.
@@ -80,13 +97,7 @@ pub fn write_elements_bytes(
     while i < ends.len() {
         let own = data_of(data, ends, i);
         let index = index_of(marks, indexes, i);
-        let head = element_head(index.mark, index.number, own.len());
-        let bytes = head.bytes;
-        let len = head.len;
-        copy_at(&bytes[..len], used, out);
-        used += len;
-        copy_at(own, used, out);
-        used += own.len();
+        used = put_element(index.mark, index.number, own, used, out);
         i += 1;
     }
 }

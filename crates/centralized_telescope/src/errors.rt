@@ -33,6 +33,8 @@ pub enum Refusal {
     NoSize,
     // a pool of more elements than a list may have
     PoolTooLarge,
+    // the digest of a run is not the one that was prepared
+    RunChanged,
 }
 
 // The number of a refusal.
@@ -54,5 +56,6 @@ pub fn refusal_number(k: Refusal) -> u32
         Refusal::Figures => 43,
         Refusal::NoSize => 44,
         Refusal::PoolTooLarge => 45,
+        Refusal::RunChanged => 46,
     }
 }

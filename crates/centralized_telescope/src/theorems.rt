@@ -9,6 +9,7 @@ ghost use Rattle.centralized_telescope.specs.later.PoolClaims.{poolAsOne
 ghost use Rattle.centralized_telescope.specs.later.FirstLayout.{firstRefused};
 ghost use Rattle.centralized_telescope.specs.later.PlanClaims.{planSuffices, planNeeded, stepsNotPassed, ticketFits, ticketBounded};
 ghost use Rattle.centralized_telescope.specs.later.PlanClaims.{tightExample};
+ghost use Rattle.centralized_telescope.specs.later.PrepareClaims.{pairProves, runsTold, changeNoticed};
 ghost use Rattle.centralized_telescope.specs.later.ProofList.{proofListed};
 ghost use Rattle.centralized_telescope.specs.later.ProofSize.{sizeNeverFalls, sizeNeverRises, sizeOneAnswer};
 ghost use Rattle.centralized_telescope.specs.later.TicketClaims.{readsBack, writesBack, judgedAlike, bytesJudgedAlike};
@@ -146,4 +147,19 @@ pub fn size_one_answer()
 // What `write_proof` leaves is a list that is accepted, of the elements at the places.
 pub fn proof_listed()
     ensures { λ _. ⌜ proofListed ⌝ }
+{}
+
+// If nothing covered changed since `prepare`, `commit` ends as `prove` does on what it is handed.
+pub fn pair_proves()
+    ensures { λ _. ⌜ pairProves ⌝ }
+{}
+
+// The bytes that `prepare` hashes are few enough for the hash, and tell settings and elements apart.
+pub fn runs_told()
+    ensures { λ _. ⌜ runsTold ⌝ }
+{}
+
+// A covered change that passes the checks gives 46, unless two byte strings have one digest.
+pub fn change_noticed()
+    ensures { λ _. ⌜ changeNoticed ⌝ }
 {}

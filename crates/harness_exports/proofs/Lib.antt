@@ -4,3 +4,4 @@ mod ProverNumbers
 mod TicketNumbers
 mod PlanAnswers
 mod PoolNumbers
+mod PrepareNumbers

@@ -13,6 +13,7 @@ use Rattle.centralized_telescope.specs.later.Distinct.{distinct}
 use Rattle.centralized_telescope.specs.later.SmallCase.{smallCase}
 use Rattle.centralized_telescope.specs.later.Plan.{planned, plannedBy}
 use Rattle.centralized_telescope.specs.later.Pool.{poolSize, poolSizeBy, poolData, provedPool}
+use Rattle.centralized_telescope.specs.later.Prepare.{prepared, committed}
 use Rattle.centralized_telescope.specs.later.ProofSize.{SizeIs, sizeBy}
 use Rattle.centralized_telescope.specs.core.Prover.{Proved, proved, provedBy}
 use Rattle.centralized_telescope.specs.later.Tickets.{TicketWritten, ticketWritten, ticketWrittenBy, TicketRead, ticketRead, ticketReadBy}
@@ -163,3 +164,16 @@ unfoldable pub exportedPoolData : Lent → Lent → ℕ → List ℕ → List �
 exportedPoolData first second place part out =
     let own : List ℕ = poolData first second place in
     cond (ltb (length part) (length own)) (42, part, out) (0, over own part, withFirst (length own) out)
+
+-- ---- prepare and commit
+
+-- the number, and the lent bytes afterwards: the digest with 0, else as they were; 8 where they aren't 32
+unfoldable pub exportedPrepare : Params → Lent → ℕ → ℕ → List ℕ → ℕ × List ℕ
+exportedPrepare p lent placesLen tableLen out =
+    let r : ℕ × List ℕ = prepared p lent placesLen tableLen in
+    cond (eqb (length out) 32) (r .0, cond (eqb (r .0) 0) (r .1) out) (8, out)
+
+-- as of the prover; 8 with all as it was where the digest isn't 32 bytes
+unfoldable pub exportedCommit : Params → List ℕ → Lent → List ℕ → List ℕ → List ℕ → ℕ × List ℕ × List ℕ × List ℕ
+exportedCommit p digest lent places table out =
+    cond (eqb (length digest) 32) (exportedSearch (committed p digest lent places table) out) (8, places, table, out)

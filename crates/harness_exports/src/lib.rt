@@ -11,7 +11,7 @@ ghost use Rattle.harness_exports.specs.Exported.{exportedHash, six, expo
 ghost use Rattle.harness_exports.specs.Exported.{withCounters, exportedProve, blocksNumbers, withFirst, exportedWriteTicket};
 ghost use Rattle.harness_exports.specs.Exported.{readNumbers, withRead, exportedReadTicket, planNumbers, withAmounts, exportedPlan};
 ghost use Rattle.harness_exports.specs.Exported.{sizeNumbers, ExportedSize, exportedProvePool, poolNumbers, exportedPoolSize};
-ghost use Rattle.harness_exports.specs.Exported.{exportedPoolData};
+ghost use Rattle.harness_exports.specs.Exported.{exportedPoolData, exportedPrepare, exportedCommit};
 use centralized_telescope::Amounts;
 use centralized_telescope::Distinctness;
 use centralized_telescope::Planned;
@@ -544,4 +544,101 @@ pub extern "C" fn alba_pool_data<'a>(
     bytes::copy(own, part);
     put_first(own.len() as u64, out);
     0
+}
+
+// The prover's checks, and the digest of what it would search: 0 with the digest in the lent bytes, or the number with nothing written; 8
+// before all else where `out` isn't 32 bytes.
+#[no_mangle]
+pub extern "C" fn alba_prepare(
+    set_size: u64,
+    proof_size: u64,
+    max_retries: u64,
+    search_width: u64,
+    dfs_bound: u64,
+    x_high: u64,
+    x_low: u64,
+    data: &[u8],
+    ends: &[u32],
+    marks: &[u8],
+    indexes: &[u64],
+    places: &[u32],
+    table: &[u32],
+    out: &mut [u8],
+) -> u32
+    ensures { λ r. ⌜ (r, now (out .exit))
+        ≡ exportedPrepare (settingsOf «set_size» «proof_size» «max_retries» «search_width» «dfs_bound» «x_high» «x_low»)
+        (lentAtEntry «data» ends marks indexes) (length (now (places .entry))) (length (now (table .entry))) (now (out .entry)) ⌝ }
+{
+    if out.len() != 32 {
+        return 8;
+    }
+    let p = settings_of(
+        set_size,
+        proof_size,
+        max_retries,
+        search_width,
+        dfs_bound,
+        x_high,
+        x_low,
+    );
+    let answer = centralized_telescope::prepare(p, data, ends, marks, indexes, places, table);
+    if answer.number != 0 {
+        return answer.number;
+    }
+    let digest = answer.digest;
+    bytes::copy(&digest, out);
+    0
+}
+
+// The prover where the digest is that of what it is handed, as `alba_prove`; 8 before all else, with nothing written, where the digest
+// isn't 32 bytes.
+#[no_mangle]
+pub extern "C" fn alba_commit(
+    set_size: u64,
+    proof_size: u64,
+    max_retries: u64,
+    search_width: u64,
+    dfs_bound: u64,
+    x_high: u64,
+    x_low: u64,
+    digest: &[u8],
+    data: &[u8],
+    ends: &[u32],
+    marks: &[u8],
+    indexes: &[u64],
+    places: &mut [u32],
+    table: &mut [u32],
+    out: &mut [u64],
+) -> u32
+    ensures { λ r. ⌜ (r, now (places .exit), now (table .exit), now (out .exit))
+        ≡ exportedCommit (settingsOf «set_size» «proof_size» «max_retries» «search_width» «dfs_bound» «x_high» «x_low»)
+        (now (digest .entry)) (lentAtEntry «data» ends marks indexes) (now (places .entry)) (now (table .entry)) (now (out .entry)) ⌝ }
+{
+    if digest.len() != 32 {
+        return 8;
+    }
+    let mut prepared = [0u8; 32];
+    bytes::copy(digest, &mut prepared);
+    let p = settings_of(
+        set_size,
+        proof_size,
+        max_retries,
+        search_width,
+        dfs_bound,
+        x_high,
+        x_low,
+    );
+    let answer = centralized_telescope::commit(
+        p,
+        prepared,
+        data,
+        ends,
+        marks,
+        indexes,
+        places,
+        table,
+    );
+    let n = numbers_of(answer);
+    put_counters(n, out);
+    n.number
 }

@@ -2,6 +2,8 @@
 //
 //     prove_and_verify ELEMENTS PROOF SET_SIZE U C [SECOND]
 //     prove_and_verify ELEMENTS PROOF SET_SIZE PROOF_SIZE MAX_RETRIES SEARCH_WIDTH DFS_BOUND X [SECOND]
+//     prove_and_verify prepare ELEMENTS SETTINGS
+//     prove_and_verify commit DIGEST ELEMENTS PROOF SETTINGS
 //
 // The first takes the small case's settings for proofs of U elements and completeness C, the second each setting by itself. ELEMENTS has an
 // element to a line: its data in hexadecimal, `-` where it is empty, and perhaps a space and its index in decimal. PROOF is a new
@@ -10,14 +12,22 @@
 // the elements of ELEMENTS and behind them those of SECOND that equal none of these. There is room for 65,536 elements of 1,048,576 data
 // bytes in all, in both files together, and for 524,288 data bytes in a proof: with the deepest search, that is what fits the system's
 // ordinary stack of 8 MB.
+//
+// `prepare` searches nothing and writes no file. It says what would be searched, how many steps that takes at most, and a digest of 64
+// hexadecimal digits, or why a search would be refused. `commit` takes the digest and makes a proof as above, where settings and elements
+// are those that were prepared; otherwise it refuses with 46 before it searches. SETTINGS are SET_SIZE U C, or the six from SET_SIZE to X.
+// These two words are commands wherever they come first: a file of such a name is called `./prepare` or `./commit`.
 mod both_files;
 mod pool;
+mod prepare;
 mod repeats;
 mod search;
 mod write_and_verify;
 
 use arguments::Asked;
 use arguments::Reading;
+use arguments::is_word;
+use search::Wanted;
 use text::say::say;
 
 fn say_usage() {
@@ -25,6 +35,8 @@ fn say_usage() {
     say(
         b"       prove_and_verify ELEMENTS PROOF SET_SIZE PROOF_SIZE MAX_RETRIES SEARCH_WIDTH DFS_BOUND X [SECOND]\n",
     );
+    say(b"       prove_and_verify prepare ELEMENTS SETTINGS\n");
+    say(b"       prove_and_verify commit DIGEST ELEMENTS PROOF SETTINGS\n");
     say(
         b"ELEMENTS  a file of elements, one to a line: data in hexadecimal, or -, and perhaps a space and the index\n",
     );
@@ -38,12 +50,14 @@ fn say_usage() {
     say(
         b"SECOND    another file of elements: those that equal none of ELEMENTS are added to them, and the proof is over all\n",
     );
+    say(b"SETTINGS  SET_SIZE U C, or SET_SIZE PROOF_SIZE MAX_RETRIES SEARCH_WIDTH DFS_BOUND X\n");
+    say(b"DIGEST    what `prepare` printed of the run, 64 hexadecimal digits\n");
 }
 
-// The settings follow the two files; what is past its limits the library refuses by number.
-fn behind_files() -> Reading {
+// Settings from argument `first` on; what is past its limits the library refuses by number.
+fn from(first: usize) -> Reading {
     Reading {
-        first: 3,
+        first,
         limited: false,
     }
 }
@@ -58,7 +72,7 @@ fn make_proof(asked: Asked) {
             let n = arguments::path(1, b"ELEMENTS", &mut elements);
             let m = arguments::path(2, b"PROOF", &mut proof);
             if n != 0 && m != 0 {
-                search::run(p, &elements[..n], &proof[..m]);
+                search::run(p, search::any_run(), &elements[..n], &proof[..m]);
             }
         }
     }
@@ -82,13 +96,78 @@ fn make_pool_proof(asked: Asked, i: usize) {
     }
 }
 
-fn main() {
-    // The program's own name is among them.
-    match os::arg_count() {
-        6 => make_proof(arguments::small_case(behind_files())),
-        7 => make_pool_proof(arguments::small_case(behind_files()), 6),
-        9 => make_proof(arguments::each_by_itself(behind_files())),
-        10 => make_pool_proof(arguments::each_by_itself(behind_files()), 9),
+// What a search under the settings asked for would be, and its digest.
+fn prepare_run(asked: Asked) {
+    let mut elements = io::buffer();
+    match asked {
+        Asked::Refused => {}
+        Asked::Settings(p) => {
+            let n = arguments::path(2, b"ELEMENTS", &mut elements);
+            if n != 0 {
+                prepare::run(p, &elements[..n]);
+            }
+        }
+    }
+}
+
+// A proof as above, if the run is the one that was prepared.
+fn commit_run(asked: Asked) {
+    let mut elements = io::buffer();
+    let mut proof = io::buffer();
+    match asked {
+        Asked::Refused => {}
+        Asked::Settings(p) => {
+            let digest = arguments::digest(2, b"DIGEST");
+            let n = arguments::path(3, b"ELEMENTS", &mut elements);
+            let m = arguments::path(4, b"PROOF", &mut proof);
+            if digest.known && n != 0 && m != 0 {
+                let bytes = digest.bytes;
+                let wanted = Wanted {
+                    prepared: true,
+                    digest: bytes,
+                };
+                search::run(p, wanted, &elements[..n], &proof[..m]);
+            }
+        }
+    }
+}
+
+// The program's own name is among the words, here and below.
+fn say_prepared(words: usize) {
+    match words {
+        6 => prepare_run(arguments::small_case(from(3))),
+        9 => prepare_run(arguments::each_by_itself(from(3))),
         _ => say_usage(),
     }
+}
+
+fn commit(words: usize) {
+    match words {
+        8 => commit_run(arguments::small_case(from(5))),
+        11 => commit_run(arguments::each_by_itself(from(5))),
+        _ => say_usage(),
+    }
+}
+
+fn prove(words: usize) {
+    match words {
+        6 => make_proof(arguments::small_case(from(3))),
+        7 => make_pool_proof(arguments::small_case(from(3)), 6),
+        9 => make_proof(arguments::each_by_itself(from(3))),
+        10 => make_pool_proof(arguments::each_by_itself(from(3)), 9),
+        _ => say_usage(),
+    }
+}
+
+fn main() {
+    let words = os::arg_count();
+    if is_word(1, b"prepare") {
+        say_prepared(words);
+        return;
+    }
+    if is_word(1, b"commit") {
+        commit(words);
+        return;
+    }
+    prove(words);
 }

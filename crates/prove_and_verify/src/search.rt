@@ -15,8 +15,22 @@ use proof_files::say_of_file;
 use text::say::say;
 use text::say::say_figure;
 
+// What is searched for: a proof, or a proof of the run that was prepared, which has this digest.
+pub struct Wanted {
+    pub prepared: bool,
+    pub digest: [u8; 32],
+}
+
+// A proof of whatever run it is.
+pub fn any_run() -> Wanted {
+    Wanted {
+        prepared: false,
+        digest: [0u8; 32],
+    }
+}
+
 // Room for the bin table of the largest set size.
-fn table_room() -> [u32; 98305]
+pub fn table_room() -> [u32; 98305]
     ensures { λ r. ⌜ 98305 ≡ length r ⌝ }
 {
     [0; 98305]
@@ -70,9 +84,27 @@ pub fn say_without_proof(found: ProofSearch) {
     }
 }
 
+fn find(
+    p: Params,
+    wanted: Wanted,
+    data: &[u8],
+    ends: &[u32],
+    marks: &[u8],
+    indexes: &[u64],
+    places: &mut [u32],
+    table: &mut [u32],
+) -> ProofSearch {
+    if !wanted.prepared {
+        return centralized_telescope::prove(p, data, ends, marks, indexes, places, table);
+    }
+    let digest = wanted.digest;
+    centralized_telescope::commit(p, digest, data, ends, marks, indexes, places, table)
+}
+
 // Says whether two elements are the same, which the prover doesn't ask; searches, and says what came of it.
 fn search(
     p: Params,
+    wanted: Wanted,
     elements: &[u8],
     proof: &[u8],
     data: &[u8],
@@ -83,8 +115,9 @@ fn search(
     repeats::say_repeats(elements, data, ends, marks, indexes);
     let mut places = [0u32; 1024];
     let mut table = table_room();
-    let found = centralized_telescope::prove(
+    let found = find(
         p,
+        wanted,
         data,
         ends,
         marks,
@@ -116,7 +149,7 @@ pub fn say_settings(p: Params) {
     say(b"\n");
 }
 
-fn say_task(p: Params, elements: &[u8], n: usize) {
+pub fn say_task(p: Params, elements: &[u8], n: usize) {
     say_settings(p);
     say(elements);
     say_figure(b": elements read ", n as u64);
@@ -135,7 +168,7 @@ pub fn is_taken(proof: &[u8]) -> bool {
 }
 
 // Reads the file of elements, searches, and writes the proof's file.
-pub fn run(p: Params, elements: &[u8], proof: &[u8]) {
+pub fn run(p: Params, wanted: Wanted, elements: &[u8], proof: &[u8]) {
     if is_taken(proof) {
         return;
     }
@@ -152,6 +185,7 @@ pub fn run(p: Params, elements: &[u8], proof: &[u8]) {
     say_task(p, elements, n);
     search(
         p,
+        wanted,
         elements,
         proof,
         &data[0..bytes],

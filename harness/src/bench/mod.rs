@@ -7,6 +7,7 @@ mod distinctness;
 mod measure;
 mod openssl;
 mod pools;
+mod prepare;
 mod searches;
 mod sizes;
 mod steps;
@@ -37,6 +38,7 @@ pub fn run(part: Bench) -> Result<(), String> {
         Bench::Distinctness => distinctness::run(),
         Bench::Sizes => sizes::run(),
         Bench::Pools => pools::run(),
+        Bench::Prepare => prepare::run(),
         _ => whole(),
     }
 }
@@ -53,6 +55,7 @@ fn whole() -> Result<(), String> {
     tickets::run()?;
     sizes::run()?;
     pools::run()?;
+    prepare::run()?;
     println!("\nThe ratio is of speeds: 1.00 is as fast, above it faster. Times are the thread's own; times and ratios are medians of {ROUNDS} rounds,");
     println!(
         "of {} for elements of 4,096 bytes and for pools, and of searches over their seeds; where nothing is found it is one search.",

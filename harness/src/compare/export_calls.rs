@@ -1,10 +1,11 @@
 //! Each export with arguments whose answer is known, made by the library and worked out by the Rust, the specification's table and words
-//! and the harness's own tickets and sizes. Those for two lists pooled are in pool_calls.rs.
+//! and the harness's own tickets and sizes. Those for two lists pooled are in pool_calls.rs, those for prepare and commit in
+//! prepare_calls.rs.
 
 use super::parameters::Args;
 use super::searches::Outcome;
 use super::verdicts::{self, Claim};
-use super::{plan, pool_calls, searches, small_case, threshold, verifier_refusals};
+use super::{plan, pool_calls, prepare_calls, searches, small_case, threshold, verifier_refusals};
 use crate::model::{chains, rules};
 use crate::{
     ffi,
@@ -37,8 +38,8 @@ const SEED: u64 = 0x43_c389_a516;
 pub fn all() -> Result<Vec<Export>, String> {
     let (samplers, tickets) = ([uniform(), bernoulli(), converter(), hash(), small()], [write_ticket(), read_ticket(), stated_blocks()]);
     let searches = [distinct(), prove()?, verify()?];
-    let pools = pool_calls::all()?;
-    Ok(samplers.into_iter().chain(searches).chain(tickets).chain([plan(), size()]).chain(pools).collect())
+    let (pools, prepared) = (pool_calls::all()?, prepare_calls::all()?);
+    Ok(samplers.into_iter().chain(searches).chain(tickets).chain([plan(), size()]).chain(pools).chain(prepared).collect())
 }
 
 /// Parameters: h, n, out.
@@ -318,7 +319,7 @@ pub fn settings(args: &Args) -> Settings {
 }
 
 /// The list of a call that takes ends and indexes as numbers.
-fn list_of(args: &Args) -> List {
+pub fn list_of(args: &Args) -> List {
     let Args { bytes, words, longs, .. } = args;
     List { data: bytes[0].clone(), ends: words[0].clone(), marks: bytes[1].clone(), indexes: longs[0].clone() }
 }

@@ -5,6 +5,7 @@ pub mod bernoulli;
 pub mod block_counts;
 pub mod blocks;
 mod by_x;
+mod changed_runs;
 mod changed_tickets;
 pub mod distinct;
 mod export_calls;
@@ -18,6 +19,8 @@ pub mod planned;
 pub mod planted;
 pub mod pool;
 mod pool_calls;
+pub mod prepare;
+mod prepare_calls;
 pub mod proof_size;
 pub mod prover_refusals;
 pub mod refusals;
@@ -45,7 +48,7 @@ type Kind = fn(&mut Run, u64) -> Checked;
 
 pub fn run(options: &Compare) -> Checked {
     println!("seed 0x{:016x}, {} random cases", options.seed, options.cases);
-    let kinds: [(&str, Kind, u64); 22] = [
+    let kinds: [(&str, Kind, u64); 23] = [
         ("orders of parameters", parameters::run, 0),
         ("uniform", uniform::run, options.cases),
         ("threshold", threshold::run, options.cases),
@@ -68,6 +71,7 @@ pub fn run(options: &Compare) -> Checked {
         ("planned runs", planned::run, options.cases / 200),
         ("proof size", proof_size::run, options.cases / 40),
         ("pools", pool::run, options.cases / 400),
+        ("prepare and commit", prepare::run, options.cases / 400),
     ];
     let (mut counts, mut parts) = (Vec::new(), String::new());
     for (stream, (name, kind, cases)) in (0..).zip(kinds) {

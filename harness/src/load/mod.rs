@@ -6,14 +6,14 @@ mod turns;
 
 use crate::args::Load;
 use crate::compare::blocks::{self, Block, Tally};
-use crate::compare::{block_counts, planned, planted, pool, Checked};
+use crate::compare::{block_counts, planned, planted, pool, prepare, Checked};
 use std::panic::{self, AssertUnwindSafe};
 use std::sync::{Mutex, MutexGuard, PoisonError};
 use std::thread;
 use std::time::{Duration, Instant};
 
 /// The exported calls, as the tallies name them.
-const CALLS: [&str; 16] = [
+const CALLS: [&str; 18] = [
     "uniform",
     "Bernoulli",
     "threshold",
@@ -30,6 +30,8 @@ const CALLS: [&str; 16] = [
     "pool size",
     "pool data",
     "prove pool",
+    "prepare",
+    "commit",
 ];
 /// How often a line says how far it is.
 const EVERY: Duration = Duration::from_secs(10);
@@ -41,8 +43,8 @@ struct Shared {
     end: u64,
     running: usize,
     tally: Tally,
-    /// How often each kind of list for distinctness, of what is planned, of security figures, of tickets by their number of blocks and of
-    /// two lists came.
+    /// How often each kind of list for distinctness, of what is planned, of security figures, of tickets by their number of blocks, of two
+    /// lists and of a run's changes came.
     seen: Tally,
     failed: Checked,
 }
@@ -69,7 +71,7 @@ pub fn run(options: &Load) -> Checked {
     ended.failed?;
     print!("{}{}", table(&ended.tally), ended.seen.lines("kinds"));
     if turn.is_none() {
-        let kinds = planted::kinds().chain(planned::kinds()).chain(block_counts::kinds()).chain(pool::kinds());
+        let kinds = planted::kinds().chain(planned::kinds()).chain(block_counts::kinds()).chain(pool::kinds()).chain(prepare::kinds());
         ended.seen.none_missing(kinds).map_err(|why| format!("kinds: FAILED (seed 0x{seed:016x})\n{why}"))?;
     }
     println!("equal in all cases: {}", so_far(&ended.tally, started));

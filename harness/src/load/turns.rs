@@ -5,8 +5,8 @@ use crate::compare::blocks::Block;
 use crate::compare::planned::{self, Planned};
 use crate::compare::planted::{NUMBERS, PLANTS, SHAPES};
 use crate::compare::{
-    bernoulli, block_counts, distinct, faults, hash, plan, pool, proof_size, prover_refusals, refusals, searches, small_case, threshold,
-    tickets, uniform, verdicts, verifier_refusals,
+    bernoulli, block_counts, distinct, faults, hash, plan, pool, prepare, proof_size, prover_refusals, refusals, searches, small_case,
+    threshold, tickets, uniform, verdicts, verifier_refusals,
 };
 use crate::compare::{Answered, Checked};
 use crate::model::rules::{BYTES, ELEMENTS, MOST};
@@ -16,7 +16,7 @@ use std::sync::{Mutex, PoisonError};
 type Turn = fn(&mut Block) -> Checked;
 
 /// Each with its name and how often it comes in its turn: so often that most turns take some hundredths or tenths of a second.
-const TURNS: [(&str, u64, Turn); 12] = [
+const TURNS: [(&str, u64, Turn); 13] = [
     ("samplers", 20_000, samplers),
     ("hash", 4000, hashes),
     ("small case", 10_000, small_cases),
@@ -29,6 +29,7 @@ const TURNS: [(&str, u64, Turn); 12] = [
     ("bad input to verify", 8, bad_to_verify),
     ("tickets", 2, tickets),
     ("pools", 1, pools),
+    ("prepare and commit", 1, prepared),
 ];
 /// Once in so many turns the fullest lists come instead: they take seconds.
 const FULL_EACH: u64 = 1024;
@@ -220,6 +221,18 @@ fn pools(block: &mut Block) -> Checked {
     (0..32).try_for_each(|_| pool::any(block))
 }
 
+/// A run from the whole domain and small ones, each prepared and committed, changed in every way and with faults.
+fn prepared(block: &mut Block) -> Checked {
+    let mut settings = draws::any_settings(&mut block.rng);
+    let list = draws::enough_elements(&mut block.rng, settings.set_size);
+    draws::keep_within(&mut block.rng, &mut settings, &list, 1 << 14);
+    let given = prover_refusals::enough(settings, list);
+    prepare::check_pair(block, &given)?;
+    prepare::check_changed(block, &given)?;
+    (0..COPIES).try_for_each(|_| prepare::check_with_faults(block, given.clone()))?;
+    (0..32).try_for_each(|_| prepare::any(block))
+}
+
 /// One at a time: each holds some hundred megabytes.
 static FULL: Mutex<()> = Mutex::new(());
 
@@ -236,6 +249,7 @@ fn full(block: &mut Block) -> Checked {
     let given = prover_refusals::enough(settings, list);
     prover_refusals::check(block, &given)?;
     prover_refusals::check_with_faults(block, given.clone())?;
+    prepare::check_pair(block, &given)?;
     let claim = verdicts::Claim { list: given.list, ..draws::any_claim(&mut block.rng) };
     verdicts::check(block, &claim)?;
     verifier_refusals::check_with_faults(block, &claim)

@@ -2,6 +2,7 @@
 
 pub mod chains;
 pub mod pool;
+pub mod prepare;
 pub mod proof_size;
 pub mod rules;
 pub mod threshold;

@@ -19,3 +19,4 @@ refusalNumber refusal.BufferShort = 42  -- a buffer to write into
 refusalNumber refusal.Figures = 43  -- 02, N6: a security figure
 refusalNumber refusal.NoSize = 44  -- 02, N6: no size up to 1,024
 refusalNumber refusal.PoolTooLarge = 45  -- 02, N8: the pool's size
+refusalNumber refusal.RunChanged = 46  -- 02, N9: another digest

@@ -20,3 +20,4 @@ refusal-number refusal.BufferShort e = omega arith
 refusal-number refusal.Figures e = omega arith
 refusal-number refusal.NoSize e = omega arith
 refusal-number refusal.PoolTooLarge e = omega arith
+refusal-number refusal.RunChanged e = omega arith

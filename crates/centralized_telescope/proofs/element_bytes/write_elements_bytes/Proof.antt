@@ -1,7 +1,7 @@
 -- `write_elements_bytes`: the first i elements stand behind what was there up to `from`.
 use mathlib.Core.Path.{_≡_, refl, sym}
-use mathlib.Core.List.{_++_, append-nil}
-use Prim.Native.Nat.{_-_, _+_, _≤_, _<_}
+use mathlib.Core.List.{List, _++_, append-nil}
+use Prim.Native.Nat.{ℕ, _-_, _≤_}
 use native.Mathlib.Omega.{arith}
 use borrow.Author.Needs.{needs}
 use lib.ListN.{length, take, length-take, take-append-drop}
@@ -11,7 +11,7 @@ use Rattle.centralized_telescope.specs.core.Elements.{elements, lentOf}
 use Rattle.centralized_telescope.specs.inner.ListReading.{lentNow}
 use Rattle.centralized_telescope.specs.later.ElementBytes.{elementsBytes}
 use Rattle.centralized_telescope.specs.laws.ElementsLaws.{ends-right, same-marks, same-indexes, length-elements}
-use Rattle.centralized_telescope.proofs.ElementWriting.{no-bytes, own-small, used-within, used-more, element-put}
+use Rattle.centralized_telescope.proofs.ElementWriting.{no-bytes, own-small, behind-within, used-more, element-put}
 use Rattle.centralized_telescope.proofs.element_bytes.write_elements_bytes.Statement.{statement}
 use Rattle.centralized_telescope.proofs.element_bytes.write_elements_bytes.Tie as tie
 
@@ -36,84 +36,32 @@ loop-holds c =
           (sym (take-append-drop (z .from) (z .out .now))),
     )
 
+-- the head of the loop, from where an element's index is known, and the call from there
+abbrev looped : tie.After-index-of Inv-loop μ-loop → tie.At-loop Inv-loop μ-loop
+looped s = s .before .before .before
+
+abbrev begun : tie.At-loop Inv-loop μ-loop → tie.Start Inv-loop μ-loop
+begun s = s .before .before .before .before .before .before
+
 data-of-requires : tie.Need-data-of-requires Inv-loop μ-loop
-data-of-requires c κs =
-    let o = c .before .before .before .before .before .before .before in
-    let z = o .args in
-    (ends-right _ (o .pre .0), search needs)
+data-of-requires c κs = (ends-right _ (begun (c .before) .pre .0), search needs)
 
 index-of-requires : tie.Need-index-of-requires Inv-loop μ-loop
 index-of-requires c κs =
-    let o = c .before .before .before .before .before .before .before .before in
-    let z = o .args in (
-      omega (arith, same-marks _ (o .pre .0)),
-      omega (arith, same-indexes _ (o .pre .0)),
-    )
+    let A = begun (c .before .before) .pre .0 in
+    (omega (arith, same-marks _ A), omega (arith, same-indexes _ A))
 
-element-head-requires : tie.Need-element-head-requires Inv-loop μ-loop
-element-head-requires c κs =
-    let o = c .before .before .before .before .before .before .before .before .before in
+put-element-requires : tie.Need-put-element-requires Inv-loop μ-loop
+put-element-requires c κs =
+    let s = c .before in
+    let l = looped s in
+    let o = begun l in
     let z = o .args in
-    own-small _ (o .pre .0) (c .before .before .before .loop .i) (search needs) _ (c .before .data-of .ensures)
-
--- the head is as many bytes as its length says
-head-len : (c : tie.After-bytes Inv-loop μ-loop)
-    → length (take (c .before .element-head .result .len) (c .before .element-head .result .bytes)) ≡ c .before .element-head .result .len
-head-len c = length-take-le _ _ (c .before .element-head .ensures .0)
-
--- there is room for head and data
-room : (c : tie.After-bytes Inv-loop μ-loop)
-    → c .before .before .before .before .before .loop .used + c .before .element-head .result .len
-    + length (c .before .before .before .data-of .result .now)
-    ≤ length (c .before .before .before .before .before .before .before .before .before .before .before .args .out .now)
-room c =
-    let o = c .before .before .before .before .before .before .before .before .before .before .before in
-    let z = o .args in
-    let l = c .before .before .before .before .before .loop in
-    let u = used-within _ (o .pre .0) (l .i) (search needs) _ (c .before .before .before .data-of .ensures) _
-    (c .before .before .index-of .ensures .0)
-    _ (c .before .before .index-of .ensures .1) _ (c .before .element-head .ensures .1) _ (head-len c) (take (z .from) (z .out .now))
-    (l .used) (l .inv .2) in
-    omega (arith, u, length-take (z .from) (z .out .now), o .pre .1)
-
-out-fits : (c : tie.After-bytes Inv-loop μ-loop)
-    → length (c .before .before .before .before .before .before .before .before .before .before .before .args .out .now)
-    < 18446744073709551616
-out-fits c = omega arith
-
-array-share-prefix-bytes : tie.Need-array-share-prefix-bytes Inv-loop μ-loop
-array-share-prefix-bytes c = c .before .element-head .ensures .0
-
-slice-aggregate-copy-at : tie.Need-slice-aggregate-copy-at Inv-loop μ-loop
-slice-aggregate-copy-at c = sym (head-len (c .before))
-
-copy-at-requires : tie.Need-copy-at-requires Inv-loop μ-loop
-copy-at-requires c κs =
-    omega (
-      arith,
-      head-len (c .before .before),
-      room (c .before .before),
-      c .before .before .before .before .before .before .before .loop .inv .1,
-    )
-
-add-used : tie.Need-add-used Inv-loop μ-loop
-add-used c = omega (arith, room (c .before .before .before .before .before))
-
-copy-at-requires-2 : tie.Need-copy-at-requires-2 Inv-loop μ-loop
-copy-at-requires-2 c κs =
-    omega (
-      arith,
-      room (c .before .before .before .before .before .before),
-      c .before .before .before .before .before .before .before .before .before .before .before .loop .inv .1,
-      c .before .before .before .copy-at .kept .1 .1 .0,
-    )
-
-add-used-2 : tie.Need-add-used-2 Inv-loop μ-loop
-add-used-2 c =
-    omega (
-      arith,
-      room (c .before .before .before .before .before .before .before .before .before),
-      out-fits (c .before .before .before .before .before .before .before .before .before),
+    let own = s .before .data-of .ensures in
+    let within = behind-within _ (o .pre .0) (l .loop .i) (search needs) _ own _ (s .index-of .ensures .0) _ (s .index-of .ensures .1)
+    (take (z .from) (z .out .now)) in (
+      own-small _ (o .pre .0) (l .loop .i) (search needs) _ own,
+      omega (arith, within, length-take (z .from) (z .out .now), o .pre .1, l .loop .inv .1, l .loop .inv .2),
     )
 
 add-i : tie.Need-add-i Inv-loop μ-loop
@@ -124,27 +72,20 @@ loop-less c = search needs
 
 loop-again : tie.Need-loop-again Inv-loop μ-loop
 loop-again c =
-    let o = c .before .before .before .before .before .before .before .before .before .before .before .before .before .before .before
-    .before .before .before .before .before in
+    let e = c .before .before .put-element in
+    let s = c .before .before .before .before in
+    let l = looped s in
+    let o = begun l in
     let z = o .args in
-    let l = c .before .before .before .before .before .before .before .before .before .before .before .before .before .before .loop in
-    let b = c .before .before .before .before .before .before .before .before .before in
-    let e = b .before .element-head in (
+    let w : List ℕ = take (z .from) (z .out .now) in
+    let own = s .before .data-of .ensures in
+    let mark = s .index-of .ensures .0 in
+    let number = s .index-of .ensures .1 in (
       search needs,
-      omega (
-        arith,
-        l .inv .1,
-        c .before .before .before .before .before .before .copy-at .kept .1 .1 .0,
-        c .before .before .copy-at2 .kept .1 .1 .0,
-      ),
-      used-more _ (o .pre .0) (l .i) (search needs) _ (b .before .before .before .data-of .ensures) _
-          (b .before .before .index-of .ensures .0)
-          _ (b .before .before .index-of .ensures .1) _ (e .ensures .1) _ (head-len b) (take (z .from) (z .out .now)) (l .used) (l .inv .2),
-      element-put _ (o .pre .0) (l .i) (search needs) _ (b .before .before .before .data-of .ensures) _
-          (b .before .before .index-of .ensures .0)
-          _ (b .before .before .index-of .ensures .1) _ (e .ensures .1) _ (head-len b) (take (z .from) (z .out .now)) (l .used) (l .inv .2)
-          (z .out .now) _ _ _ (l .inv .3)
-          (c .before .before .before .before .before .before .copy-at .ensures) (c .before .before .copy-at2 .ensures),
+      omega (arith, l .loop .inv .1, e .kept .1 .1 .1 .1 .0),
+      used-more _ (o .pre .0) (l .loop .i) (search needs) _ own _ mark _ number w (z .out .now) _ _ _ _ (l .loop .inv .2) (e .ensures),
+      element-put _ (o .pre .0) (l .loop .i) (search needs) _ own _ mark _ number w (z .out .now) _ _ _ _ (l .loop .inv .2) (e .ensures)
+          (l .loop .inv .3),
     )
 
 same-length : tie.Need-same-length Inv-loop μ-loop
@@ -167,13 +108,7 @@ write-elements-bytes-spec =
     loop-holds
     data-of-requires
     index-of-requires
-    element-head-requires
-    array-share-prefix-bytes
-    slice-aggregate-copy-at
-    copy-at-requires
-    add-used
-    copy-at-requires-2
-    add-used-2
+    put-element-requires
     add-i
     loop-less
     loop-again
