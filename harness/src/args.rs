@@ -18,8 +18,8 @@ compare   Runs the verified library and the original Rust on the same inputs and
   --cases N   random inputs for each of the uniform sampler, the Bernoulli sampler by q and by X, the converter and planning, N / 20
               messages to hash, N / 20 of the small case, N / 10 lists for distinctness, N / 10 small searches, N / 20 by X, N / 100 bad
               inputs for each of prover and verifier, N / 50 lists for tickets, each with five changed tickets, N / 1000 with each wrong
-              number of blocks, N / 200 searches with what was planned, N / 40 security figures, N / 400 times two lists pooled, and
-              N / 400 runs prepared and committed (default 2000000)
+              number of blocks, N / 200 searches with what was planned, N / 40 security figures, N / 400 times two lists pooled, N / 400
+              runs prepared and committed, and N / 20 pairs of bounds (default 2000000)
   --seed S    decimal, or hexadecimal after 0x (default: from the clock; it is printed)
           It ends with a line of counts, or with the first case that differs and status 1.
 

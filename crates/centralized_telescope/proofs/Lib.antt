@@ -19,6 +19,9 @@ mod TicketsHold
 mod FirstLayoutHolds
 mod PlanHolds
 mod PrepareHolds
+mod RaisingHolds
+mod RaisedDigests
+mod RaisedExampleHolds
 -- round.rt
 mod RoundHashes
 -- bins.rt; BinCounting sort.rt too

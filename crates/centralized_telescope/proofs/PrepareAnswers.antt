@@ -49,9 +49,13 @@ module _ (p : Params) (digest : List ℕ) (lent : Lent) (places table : List ℕ
   abbrev same : Bool
   same = sameBytes digest (runDigest p (elements lent))
 
+  checks-first : (k : ℕ) → (k ≡ 0 → ⊥) → met ≡ k → commitRefusal p digest lent (length places) (length table) ≡ k
+  unfolding commitRefusal
+  checks-first k n e = number-met met _ k e n
+
   pub commit-refused-by : (k : ℕ) → (k ≡ 0 → ⊥) → met ≡ k → committed p digest lent places table ≡ refused k places table
-  unfolding committed commitRefusal
-  commit-refused-by k n e = rw (number-met met (line 46 (not same) ∷ []) k e n, ne-eqb k 0 n)
+  unfolding committed
+  commit-refused-by k n e = rw (checks-first k n e, ne-eqb k 0 n)
 
   -- a refusal that `check_run` gives
   pub commit-refused : (k : Refusal) → met ≡ refusalNumber k → committed p digest lent places table ≡ refused (refusalNumber k) places table

@@ -17,4 +17,5 @@ pub mod Plan
 pub mod PlanClaims
 pub mod ProofSize
 pub mod PoolClaims
+pub mod RaisingClaims
 pub mod AllCases

@@ -17,6 +17,7 @@ pub mod TryLaws
 pub mod SearchLaws
 pub mod WalkLaws
 pub mod OneBinLaws
+pub mod BoundLaws
 pub mod VerifierLaws
 pub mod ProofListLaws
 pub mod ElementBytesLaws

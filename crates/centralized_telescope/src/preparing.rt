@@ -54,7 +54,7 @@ fn absorb_head(p: Params, count: usize) -> Hasher
     absorb_number(high, p.x.lo)
 }
 
-// So many bytes are gathered before they are absorbed: more than one element has, so that many short ones are absorbed at once.
+// At most so many bytes are gathered before they are absorbed. One element takes 4,109 at most, and many short ones are absorbed at once.
 const ROOM: usize = 8192;
 
 // Room for them. A function of its own: its caller's proof then sees a length, and not that many bytes.

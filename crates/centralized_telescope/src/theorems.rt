@@ -6,6 +6,7 @@ ghost use Rattle.centralized_telescope.specs.later.FoundExample.{foundEx
 ghost use Rattle.centralized_telescope.specs.later.VerdictExactly.{verdictExactly};
 ghost use Rattle.centralized_telescope.specs.later.Distinct.{distinctExactly};
 ghost use Rattle.centralized_telescope.specs.later.PoolClaims.{poolAsOneList, poolGuaranteed};
+ghost use Rattle.centralized_telescope.specs.later.RaisingClaims.{raisedTry, raisedRun, raisedAnswer, raisedExample};
 ghost use Rattle.centralized_telescope.specs.later.FirstLayout.{firstRefused};
 ghost use Rattle.centralized_telescope.specs.later.PlanClaims.{planSuffices, planNeeded, stepsNotPassed, ticketFits, ticketBounded};
 ghost use Rattle.centralized_telescope.specs.later.PlanClaims.{tightExample};
@@ -58,6 +59,27 @@ pub fn pool_as_one_list()
 // Demand 3's sentences on the prover and on its proof hold of `prove_pool`, read over the pool's elements.
 pub fn pool_guaranteed()
     ensures { λ _. ⌜ poolGuaranteed ⌝ }
+{}
+
+// A try that finds a chain under a bound finds it under each higher one, with the same count.
+pub fn raised_try()
+    ensures { λ _. ⌜ raisedTry ⌝ }
+{}
+
+// A run that finds a proof under a bound which no earlier try reached answers the same under each higher one.
+pub fn raised_run()
+    ensures { λ _. ⌜ raisedRun ⌝ }
+{}
+
+// What a higher bound can make of any answer: a proof stays a proof, of no later try; 12 and a refusal stay as they are; after 11 a proof
+// comes only from a try that had reached the lower bound.
+pub fn raised_answer()
+    ensures { λ _. ⌜ raisedAnswer ⌝ }
+{}
+
+// A run in which an earlier try reached the lower bound, and whose proof is another under the higher.
+pub fn raised_example()
+    ensures { λ _. ⌜ raisedExample ⌝ }
 {}
 
 // A ticket written and read, into buffers with room, gives R, S and the elements that were written.
@@ -154,7 +176,7 @@ pub fn pair_proves()
     ensures { λ _. ⌜ pairProves ⌝ }
 {}
 
-// The bytes that `prepare` hashes are few enough for the hash, and tell settings and elements apart.
+// The bytes that `prepare` hashes are few enough for the hash, and determine settings and elements.
 pub fn runs_told()
     ensures { λ _. ⌜ runsTold ⌝ }
 {}

@@ -18,7 +18,15 @@ fn say_meaning(number: u64) {
         5 => say(b"over 65536 elements, or over 4096 data bytes in one"),
         6 => say(b"the room to search in is too short"),
         10 => say(b"fewer elements than the set size"),
-        11 => say(b"the steps reached the bound"),
+        11 => {
+            say(
+                b"the steps of all tries together reached the bound. A higher bound brings a proof only from a try that ",
+            );
+            say(b"reached the lower bound by itself. ");
+            say(
+                b"It can't lose a proof that was found, and gives the same one unless an earlier try had reached the lower bound",
+            );
+        }
         12 => say(b"the steps stayed below the bound"),
         20 => say(b"the proof's length is not the proof size"),
         21 => say(b"R is not below the number of tries, or S not below the width"),

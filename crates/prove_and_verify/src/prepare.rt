@@ -18,7 +18,7 @@ fn say_most_steps(p: Params) {
             say_figure(b"steps: at most ", amounts.most_steps);
             say(b"\n");
         }
-        // Prepare refuses the settings too, and says so.
+        // It can't come: prepare accepted these settings.
         Planned::Refused(_) => {}
     }
 }

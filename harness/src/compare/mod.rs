@@ -23,6 +23,7 @@ pub mod prepare;
 mod prepare_calls;
 pub mod proof_size;
 pub mod prover_refusals;
+mod raised;
 pub mod refusals;
 pub mod searches;
 pub mod small_case;
@@ -48,7 +49,7 @@ type Kind = fn(&mut Run, u64) -> Checked;
 
 pub fn run(options: &Compare) -> Checked {
     println!("seed 0x{:016x}, {} random cases", options.seed, options.cases);
-    let kinds: [(&str, Kind, u64); 23] = [
+    let kinds: [(&str, Kind, u64); 24] = [
         ("orders of parameters", parameters::run, 0),
         ("uniform", uniform::run, options.cases),
         ("threshold", threshold::run, options.cases),
@@ -72,6 +73,7 @@ pub fn run(options: &Compare) -> Checked {
         ("proof size", proof_size::run, options.cases / 40),
         ("pools", pool::run, options.cases / 400),
         ("prepare and commit", prepare::run, options.cases / 400),
+        ("raised bounds", raised::run, options.cases / 20),
     ];
     let (mut counts, mut parts) = (Vec::new(), String::new());
     for (stream, (name, kind, cases)) in (0..).zip(kinds) {

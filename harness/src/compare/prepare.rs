@@ -190,8 +190,8 @@ pub fn check_pair(block: &mut Block, given: &Given) -> Result<Outcome, String> {
     check_commit(block, given, Some(&digest))
 }
 
-/// Commit with the digest of the run before each change, and prepare after it. The workspace stays, so that some changes are refused for
-/// it.
+/// Commit with the digest of the run before each change, and prepare after it. The workspace grows with proof_size, and by one set size, so
+/// that most changes pass the checks.
 pub fn check_changed(block: &mut Block, given: &Given) -> Checked {
     let digest = check_prepare(block, given, Some(DIGEST))?.unwrap_or([0; DIGEST]);
     for (is_covered, (name, change)) in COVERED.map(|kind| (true, kind)).into_iter().chain(UNREAD.map(|kind| (false, kind))) {

@@ -15,7 +15,7 @@ pub record Put (y : List ℕ) (from : ℕ) (out after : List ℕ) (to : ℕ) : T
 abbrev pub gatherRoom : ℕ
 gatherRoom = 8192
 
--- the first `used` bytes are those of the elements from the place i up to the place `next`, one at least
+-- the first `used` bytes are those of the elements from the place i up to, without, the place `next`, one at least
 pub record GatheredFrom (es : List Element) (i : ℕ) (out : List ℕ) (used next : ℕ) : Type 0 where
   pub one : i < next
   pub there : next ≤ length es

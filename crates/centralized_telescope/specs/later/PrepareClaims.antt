@@ -24,7 +24,7 @@ pairProves =
     → elements lent′ ≡ elements lent
     → committed p (prepared p lent placesLen tableLen .1) lent′ places table ≡ proved p lent′ places table
 
--- ---- 02, N9: the bytes hashed tell settings and elements apart
+-- ---- 02, N9: the bytes hashed determine settings and elements
 
 -- lawful settings with X's words of 64 bits, and an accepted list with indexes of 64 bits
 pub record IsRun (p : Params) (lent : Lent) : Type 0 where
