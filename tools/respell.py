@@ -80,14 +80,20 @@ class Names:
         self.facts = {}     # lower-case names of what is a fact or a type
         self.top = set()    # declared at the top level or in a module of a file, or a field
         self.local = set()
+        self.fields = set()
         for path in antt_files():
             lines = open(path, encoding="utf-8").read().split("\n")
             by_hand = not path.endswith("/Proof.antt")
+            inside = False
             for i, line in enumerate(lines):
+                if line and not line.startswith((" ", "--")):
+                    inside = re.match(r"(pub )?record ", line) is not None
                 m = DECLARED.match(line)
                 if not m or line.lstrip().startswith("--"):
                     continue
                 name = m.group(3)
+                if inside and m.group(1):
+                    self.fields.add(name)
                 if not by_hand and re.search(r" : tie\.", line):
                     continue
                 whole = signature(lines, i)
@@ -111,9 +117,6 @@ class Names:
     def is_lemma(name, olds):
         first = {n for n in olds if camel(n)} or {n for n in olds if not odd(n)}
         return name not in first
-
-    def is_renamed(self, name):
-        return name in self.facts or name in self.lemmas or odd(name)
 
     def new(self, name):
         if name in self.facts:
@@ -159,7 +162,7 @@ def words(text, names, keep):
             return name
         before = text[m.start() - 1] if m.start() else " "
         if before == ".":
-            return names.new(name) if name in names.top and names.is_renamed(name) else name
+            return names.new(name) if name in names.fields or name in names.top and (odd(name) or name in names.facts) else name
         return names.new(name)
 
     return WORD.sub(turn, text)
@@ -169,7 +172,7 @@ def comment_words(text, names):
     """In a comment or in the source only what is declared is renamed: prose has words with a dash of its own."""
     def turn(m):
         name = m.group(0)
-        return names.new(name) if name in names.top else name
+        return names.new(name) if name in names.top and (odd(name) or name in names.facts) else name
 
     return WORD.sub(turn, text)
 
@@ -206,6 +209,15 @@ def respell_rt(text, names):
     return "".join(out)
 
 
+# Fields that a reader of the definitions meets, and that would have got the ending of a lemma.
+FIELDS = {"too_large_lem": "list_over", "counters_out_lem": "counters_over", "max_retries_lem": "max_retries_kept",
+          "search_width_lem": "search_width_kept", "dfs_bound_lem": "dfs_bound_kept"}
+
+
+def name_fields(text):
+    return WORD.sub(lambda m: FIELDS.get(m.group(0), m.group(0)), text)
+
+
 def main():
     own = set(crates())
     names = Names(own)
@@ -217,6 +229,8 @@ def main():
     for path in antt_files():
         text = open(path, encoding="utf-8").read()
         new = respell_antt_file(text, names, path.endswith("/Proof.antt"))
+        if path.startswith("crates/centralized_telescope/"):
+            new = name_fields(new)
         if new != text:
             open(path, "w", encoding="utf-8").write(new)
     for path in sorted(glob.glob("crates/*/src/**/*.rt", recursive=True)):

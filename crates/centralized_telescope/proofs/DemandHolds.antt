@@ -116,7 +116,7 @@ module _ (p : Params) (lent : Lent) (places table : List ℕ) (S : Served p lent
         let pass : ElementsPass p r.retry r.search (elements l.lent) = rw l.same chain_verified in
         record {
           accepts = ((λ q. (w.accepts.0 q).2), (λ b. w.accepts.1 (l.accepted, below_width, b, pass)));
-          else_counters = λ b. w.counters_out_lem.1 (l.accepted, pass.0, inr b);
+          else_counters = λ b. w.counters_over.1 (l.accepted, pass.0, inr b);
         }
 
 pub demand_3 : Demand3Claim

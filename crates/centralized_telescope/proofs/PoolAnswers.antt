@@ -21,8 +21,8 @@ use Rattle.centralized_telescope.proofs.AddedPlaces.{pool_length, pool_readable,
 module _ (first second : Lent) where
   -- ---- what is refused
 
-  abbrev too_large_lem : ℕ
-  too_large_lem = line 45 (ltb max_elements (length (pool first second)))
+  abbrev list_over : ℕ
+  list_over = line 45 (ltb max_elements (length (pool first second)))
 
   -- 4 and 5 of the first list
   pub first_met : (k : Refusal) → list_check first ≡ refusal_number k → pool_refusal first second ≡ refusal_number k
@@ -36,9 +36,9 @@ module _ (first second : Lent) where
     second_list_met k e = second_met (list_check first) (list_check second) _ (refusal_number k) A e (refusal_number_lem k)
 
     module _ (B : list_check second ≡ 0) where
-      last_line : pool_refusal first second ≡ too_large_lem
+      last_line : pool_refusal first second ≡ list_over
       unfolding pool_refusal
-      last_line = two_passed (list_check first) (list_check second) _ A B ∙ number_last too_large_lem
+      last_line = two_passed (list_check first) (list_check second) _ A B ∙ number_last list_over
 
       -- 45
       pub pool_met : max_elements < length (pool first second) → pool_refusal first second ≡ refusal_number refusal.PoolTooLarge

@@ -73,9 +73,9 @@ runs_same p lent p' lent' I I' e =
       params_same p p'
           (field_same 8 _ _ _ _ b1 (omega (arith, L.set_size.1)) (omega (arith, L'.set_size.1)))
           (field_same 8 _ _ _ _ b2 (omega (arith, L.limits.proof_size)) (omega (arith, L'.limits.proof_size)))
-          (field_same 8 _ _ _ _ b3 (omega (arith, L.limits.max_retries_lem)) (omega (arith, L'.limits.max_retries_lem)))
-          (field_same 8 _ _ _ _ b4 (omega (arith, L.limits.search_width_lem)) (omega (arith, L'.limits.search_width_lem)))
-          (field_same 8 _ _ _ _ b5 (omega (arith, L.limits.dfs_bound_lem)) (omega (arith, L'.limits.dfs_bound_lem)))
+          (field_same 8 _ _ _ _ b3 (omega (arith, L.limits.max_retries_kept)) (omega (arith, L'.limits.max_retries_kept)))
+          (field_same 8 _ _ _ _ b4 (omega (arith, L.limits.search_width_kept)) (omega (arith, L'.limits.search_width_kept)))
+          (field_same 8 _ _ _ _ b5 (omega (arith, L.limits.dfs_bound_kept)) (omega (arith, L'.limits.dfs_bound_kept)))
           (field_same 8 _ _ _ _ b7 I.high I'.high)
           (field_same 8 _ _ _ _ b8 I.low I'.low),
       elements_told lent lent' p p' I I' count b9,

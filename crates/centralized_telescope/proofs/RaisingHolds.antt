@@ -322,9 +322,9 @@ module _ (p : Params) (a b : ℕ) (l : a ≤ b) (ok : checked (with_bound p b) �
       let k = lawful (with_bound p b) ok in
       let limits : Limits (with_bound p a) = record {
         proof_size = k.limits.proof_size;
-        max_retries_lem = k.limits.max_retries_lem;
-        search_width_lem = k.limits.search_width_lem;
-        dfs_bound_lem = omega (arith, k.limits.dfs_bound_lem);
+        max_retries_kept = k.limits.max_retries_kept;
+        search_width_kept = k.limits.search_width_kept;
+        dfs_bound_kept = omega (arith, k.limits.dfs_bound_kept);
       } in
       passes (with_bound p a) (size_kept (with_bound p a) k.set_size) limits
 

@@ -34,7 +34,7 @@ module _ {p : Params} {s : Source} {R : ℕ} {table : List ℕ} {room : ℕ} (r 
   proof_size_most = law.limits.proof_size
 
   pub bound_most : p.dfs_bound ≤ 2 ^ 48
-  bound_most = law.limits.dfs_bound_lem
+  bound_most = law.limits.dfs_bound_kept
 
   -- ---- the table
 

@@ -85,9 +85,9 @@ module _ (p : Params) (R S : ℕ) (lent : Lent) where
         set_size = set_size_met p v v_met above;
         limit = limit_met p v v_met above;
         malformed = settled p v v_met above 4 _ (λ c. (so c).malformed) (λ z. omega arith) (λ z. omega arith);
-        too_large_lem = settled p v v_met above 5 _ (λ c. (so c).too_large_lem) (λ z. omega arith) (λ z. omega arith);
+        list_over = settled p v v_met above 5 _ (λ c. (so c).list_over) (λ z. omega arith) (λ z. omega arith);
         length_differs = settled p v v_met above 20 _ (λ c. (so c).length_differs) (λ z. omega arith) (λ z. omega arith);
-        counters_out_lem = settled p v v_met above 21 _ (λ c. (so c).counters_out_lem) (λ z. omega arith) (λ z. omega arith);
+        counters_over = settled p v v_met above 21 _ (λ c. (so c).counters_over) (λ z. omega arith) (λ z. omega arith);
         fails = settled p v v_met above 22 _ (λ c. (so c).fails) (λ z. omega arith) (λ z. omega arith);
         accepts = settled p v v_met above 0 _ (λ c. (so c).accepts) (λ z. omega arith) (λ z. omega arith);
       }
@@ -141,11 +141,11 @@ module _ (p : Params) (R S : ℕ) (lent : Lent) where
         set_size = set_size_met p w w_met above;
         limit = limit_met p w w_met above;
         malformed = settled p w w_met above 4 _ (λ c. ((λ _. refl), (λ _. four c))) (λ z. omega arith) (λ z. omega arith);
-        too_large_lem = settled p w w_met above 5 _ (λ c. other 5 _ (four c) (λ z. omega arith) (λ h. omega arith)) (λ z. omega arith)
+        list_over = settled p w w_met above 5 _ (λ c. other 5 _ (four c) (λ z. omega arith) (λ h. omega arith)) (λ z. omega arith)
             (λ z. omega arith);
         length_differs = settled p w w_met above 20 _ (λ c. other 20 _ (four c) (λ z. omega arith) (λ h. omega (arith, h.0)))
             (λ z. omega arith) (λ z. omega arith);
-        counters_out_lem = settled p w w_met above 21 _ (λ c. other 21 _ (four c) (λ z. omega arith) (λ h. omega (arith, h.0)))
+        counters_over = settled p w w_met above 21 _ (λ c. other 21 _ (four c) (λ z. omega arith) (λ h. omega (arith, h.0)))
             (λ z. omega arith) (λ z. omega arith);
         fails = settled p w w_met above 22 _ (λ c. other 22 _ (four c) (λ z. omega arith) (λ h. omega (arith, h.0)))
             (λ z. omega arith) (λ z. omega arith);

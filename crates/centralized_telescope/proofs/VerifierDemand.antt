@@ -171,14 +171,14 @@ module _ (p : Params) (R S : ℕ) (lent : Lent) where
     malformed : (v ≡ 4) ↔ (list ≡ 4)
     malformed = of_list v 4 (omega arith) (omega arith) met
 
-    too_large_lem : (v ≡ 5) ↔ (list ≡ 5)
-    too_large_lem = of_list v 5 (omega arith) (omega arith) met
+    list_over : (v ≡ 5) ↔ (list ≡ 5)
+    list_over = of_list v 5 (omega arith) (omega arith) met
 
     length_differs : (v ≡ 20) ↔ (Accepted lent × (Long → ⊥))
     length_differs = at_20 v met
 
-    counters_out_lem : (v ≡ 21) ↔ (Accepted lent × Long × Out)
-    counters_out_lem = at_21 v met
+    counters_over : (v ≡ 21) ↔ (Accepted lent × Long × Out)
+    counters_over = at_21 v met
 
     fails : (v ≡ 22) ↔ (Accepted lent × Long × (S < p.search_width) × (R < p.max_retries) × (Pass → ⊥))
     fails = at_22 v met
@@ -189,9 +189,9 @@ module _ (p : Params) (R S : ℕ) (lent : Lent) where
     pub verdict_so : OfVerifier p R S lent v
     verdict_so = record {
       malformed = malformed;
-      too_large_lem = too_large_lem;
+      list_over = list_over;
       length_differs = length_differs;
-      counters_out_lem = counters_out_lem;
+      counters_over = counters_over;
       fails = fails;
       accepts = accepts;
     }

@@ -15,7 +15,7 @@ pub fn read_bytes(name: &[u8], out: &mut [u8]) -> Fetched
         return input::none_fetched();
     }
     let fetched = input::read_whole(fd, out);
-    if !fetched.whole && !fetched.too_long_lem {
+    if !fetched.whole && !fetched.too_long {
         say_of_file(name, b"can't be read to its end");
     }
     libc::close(fd);

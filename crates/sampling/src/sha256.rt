@@ -504,7 +504,7 @@ fn start() -> State
 }
 
 // A hasher past the limit. It is the same whatever was absorbed, so that two strings leave what the two joined leave.
-fn too_long_lem() -> Hasher
+fn too_long() -> Hasher
     ensures { result ≡ too_long }
 {
     let h = Hasher::new();
@@ -535,7 +535,7 @@ impl Hasher {
     {
         let len = self.len;
         if MAX_HASHED < len || MAX_HASHED - len < s.len() {
-            return too_long_lem();
+            return too_long();
         }
         absorb_all(self, s)
     }

@@ -15,7 +15,7 @@ pub struct Filled {
 #[derive(Drop)]
 pub struct Fetched {
     pub whole: bool,
-    pub too_long_lem: bool,
+    pub too_long: bool,
     pub len: usize,
 }
 
@@ -67,7 +67,7 @@ pub fn none_fetched() -> Fetched
 {
     Fetched {
         whole: false,
-        too_long_lem: false,
+        too_long: false,
         len: 0,
     }
 }
@@ -83,13 +83,13 @@ pub fn read_whole(fd: i32, out: &mut [u8]) -> Fetched
     if filled.len == out.len() && !is_at_end(fd) {
         return Fetched {
             whole: false,
-            too_long_lem: true,
+            too_long: true,
             len: 0,
         };
     }
     Fetched {
         whole: true,
-        too_long_lem: false,
+        too_long: false,
         len: filled.len,
     }
 }

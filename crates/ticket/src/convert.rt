@@ -140,7 +140,7 @@ pub fn read(ticket: &[u8], proof: &[u8]) {
     }
     let mut room = ticket_room();
     let fetched = proof_files::read_bytes(ticket, &mut room);
-    if fetched.too_long_lem {
+    if fetched.too_long {
         // the program's own limit, and no answer of the library: what is in the file isn't known
         say_of_file(
             ticket,

@@ -97,9 +97,9 @@ pub record OfProver (p : Params) (es : List Element) (places : List ℕ) (r : Pr
 -- on any proof, v being the verdict on the counters R and S and a list: each number of the table exactly where its line is the first met
 pub record OfVerifier (p : Params) (R S : ℕ) (lent : Lent) (v : ℕ) : Type 0 where
   pub malformed : (v ≡ 4) ↔ (list_check lent ≡ 4)
-  pub too_large_lem : (v ≡ 5) ↔ (list_check lent ≡ 5)
+  pub list_over : (v ≡ 5) ↔ (list_check lent ≡ 5)
   pub length_differs : (v ≡ 20) ↔ (Accepted lent × (length (elements lent) ≢ p.proof_size))
-  pub counters_out_lem : (v ≡ 21)
+  pub counters_over : (v ≡ 21)
       ↔ (Accepted lent
       × (length (elements lent) ≡ p.proof_size)
       × ((p.search_width ≤ S) ⊎ (p.max_retries ≤ R)))

@@ -17,9 +17,9 @@ SetSizeKept p = (1 ≤ p.set_size) × (p.set_size ≤ max_set_size)
 -- the other whole numbers are at most theirs
 pub record Limits (p : Params) : Type 0 where
   pub proof_size : p.proof_size ≤ max_proof_size
-  pub max_retries_lem : p.max_retries ≤ max_retries
-  pub search_width_lem : p.search_width ≤ max_search_width
-  pub dfs_bound_lem : p.dfs_bound ≤ max_dfs_bound
+  pub max_retries_kept : p.max_retries ≤ max_retries
+  pub search_width_kept : p.search_width ≤ max_search_width
+  pub dfs_bound_kept : p.dfs_bound ≤ max_dfs_bound
 
 -- settings that neither 1 nor 2 refuses
 pub record Lawful (p : Params) : Type 0 where
@@ -36,9 +36,9 @@ pub record VerdictIs (p : Params) (R S : ℕ) (list_number : ℕ) (es : List Ele
   pub set_size : (v ≡ 1) ↔ (SetSizeKept p → ⊥)
   pub limit : (v ≡ 2) ↔ (SetSizeKept p × (Limits p → ⊥))
   pub malformed : (v ≡ 4) ↔ (Lawful p × (list_number ≡ 4))
-  pub too_large_lem : (v ≡ 5) ↔ (Lawful p × (list_number ≡ 5))
+  pub list_over : (v ≡ 5) ↔ (Lawful p × (list_number ≡ 5))
   pub length_differs : (v ≡ 20) ↔ (Lawful p × ((list_number ≡ 0) × (length es ≢ p.proof_size)))
-  pub counters_out_lem : (v ≡ 21)
+  pub counters_over : (v ≡ 21)
       ↔ (Lawful p
       × ((list_number ≡ 0)
       × (length es ≡ p.proof_size)

@@ -31,9 +31,9 @@ module _ (p : Params) where
       let c = neither (nat_lt max_search_width p.search_width) b.1 in
       record {
         proof_size = ltb-false max_proof_size p.proof_size a.0;
-        max_retries_lem = ltb-false max_retries p.max_retries b.0;
-        search_width_lem = ltb-false max_search_width p.search_width c.0;
-        dfs_bound_lem = ltb-false max_dfs_bound p.dfs_bound c.1;
+        max_retries_kept = ltb-false max_retries p.max_retries b.0;
+        search_width_kept = ltb-false max_search_width p.search_width c.0;
+        dfs_bound_kept = ltb-false max_dfs_bound p.dfs_bound c.1;
       }
 
   pub within_limits : Limits p → limit_broken p ≡ false
@@ -41,9 +41,9 @@ module _ (p : Params) where
   within_limits l =
       rw (
         le-ltb max_proof_size p.proof_size l.proof_size,
-        le-ltb max_retries p.max_retries l.max_retries_lem,
-        le-ltb max_search_width p.search_width l.search_width_lem,
-        le-ltb max_dfs_bound p.dfs_bound l.dfs_bound_lem,
+        le-ltb max_retries p.max_retries l.max_retries_kept,
+        le-ltb max_search_width p.search_width l.search_width_kept,
+        le-ltb max_dfs_bound p.dfs_bound l.dfs_bound_kept,
       )
 
   -- by the tests, in the table's order

@@ -159,9 +159,9 @@ module _ (n u : ℕ) (c : Float) (p : proof_size_out u ≡ false) (o : completen
   unfolding small_settings
   keeps_limits = record {
     proof_size = (one_to p).1;
-    max_retries_lem = ceil_most max_completeness c (inside max_completeness c o);
-    search_width_lem = width_most u p;
-    dfs_bound_lem = bound_most u p;
+    max_retries_kept = ceil_most max_completeness c (inside max_completeness c o);
+    search_width_kept = width_most u p;
+    dfs_bound_kept = bound_most u p;
   }
 
   pub small_case_lawful : set_size_out n ≡ false → checked (with_set_size n (small_settings u c)) ≡ 0

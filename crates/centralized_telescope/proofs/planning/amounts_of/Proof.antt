@@ -15,7 +15,7 @@ content_most s =
     mul-le-mul (settings s).limits.proof_size most
 
 steps_most : (s : tie.Start) → s.args.p.max_retries * s.args.p.dfs_bound ≤ 65535 * 2 ^ 48
-steps_most s = mul-le-mul (settings s).limits.max_retries_lem (settings s).limits.dfs_bound_lem
+steps_most s = mul-le-mul (settings s).limits.max_retries_kept (settings s).limits.dfs_bound_kept
 
 add-size : tie.Need-overflow-add-size
 add-size c = search rules

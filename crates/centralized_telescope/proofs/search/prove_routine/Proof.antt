@@ -76,7 +76,7 @@ attempted s =
     record {
       head = v.loop.inv;
       inside = omega (arith, v.loop.inv.low, (test f).if1.taken);
-      lawful_bound = (lawful o.args.p o.pre.0).limits.dfs_bound_lem;
+      lawful_bound = (lawful o.args.p o.pre.0).limits.dfs_bound_kept;
       filled_is = f.fill-table.ensures;
       filled_long = table_as_long f;
       said = s.prove-index.ensures;
@@ -89,7 +89,7 @@ sum_fits s t l =
     let v = turn (test (filled s)) in
     let o = entry v.before in
     let law = lawful o.args.p o.pre.0 in
-    omega (arith, law.limits.max_retries_lem, law.limits.dfs_bound_lem, v.loop.inv.few, (test (filled s)).if1.taken)
+    omega (arith, law.limits.max_retries_kept, law.limits.dfs_bound_kept, v.loop.inv.few, (test (filled s)).if1.taken)
 
 loop-holds : tie.Need-loop-init invariant-loop decreases-loop
 loop-holds c =

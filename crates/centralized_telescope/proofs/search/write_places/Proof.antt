@@ -53,7 +53,7 @@ loop-again c =
       low = search rules;
       as_long = simp length-set v.invariant.as_long;
       written_so =
-          ap (λ (l : List ℕ). set l v.i (get_or a.t1 v.i 0)) v.invariant.written-so
+          ap (λ (l : List ℕ). set l v.i (get_or a.t1 v.i 0)) v.invariant.written_so
           ∙ copy_more a.t1 a.places.now v.i (omega (arith, path_long o)) (omega arith);
     }
 
@@ -65,7 +65,7 @@ returns c =
     let v = c.before.loop in
     let a = (entry c.before).args in
     let e : v.i ≡ a.n = omega (arith, v.invariant.low, c.loop-test.false) in
-    v.invariant.written-so ∙ ap (λ (k : ℕ). take k a.t1 ++ drop k a.places.now) e
+    v.invariant.written_so ∙ ap (λ (k : ℕ). take k a.t1 ++ drop k a.places.now) e
 
 pub write-places-spec : {M : Type 1} → statement M
 write-places-spec =

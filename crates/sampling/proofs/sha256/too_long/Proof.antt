@@ -1,4 +1,4 @@
--- `too_long_lem`: a new hasher's state and block.
+-- `too_long`: a new hasher's state and block.
 use Rattle.std.proofs.Common.{rules}
 use Rattle.sampling.specs.later.Hasher.{new_hasher, too_long}
 use Rattle.sampling.proofs.sha256.too_long.Statement.{statement}

@@ -8,7 +8,7 @@ too-long-requires : tie.Need-too-long-requires
 too-long-requires c κs = search rules
 
 returns : tie.Need-returns
-returns c = c.too_long_lem.ensures ∙ sym (absorbed_over _ _ (⊎_elim (λ h. omega arith) (λ h. omega (arith, ltb-true)) c.before.if1.branch))
+returns c = c.too_long.ensures ∙ sym (absorbed_over _ _ (⊎_elim (λ h. omega arith) (λ h. omega (arith, ltb-true)) c.before.if1.branch))
 
 absorb-all-requires : tie.Need-absorb-all-requires
 absorb-all-requires c κs = omega (arith, ltb-false)
