@@ -148,6 +148,8 @@ def respell_antt(text, names, is_proof):
             else:
                 listed = split_names(rest)
             out.append(m.group(1) + path + ".{" + ", ".join(listed) + "}")
+        elif rest.startswith(" as "):
+            out.append(m.group(1) + path + " as " + names.new(rest[4:]))
         else:
             out.append(text[start:end])
         at = end

@@ -9,9 +9,9 @@ use lib.Seq.{sets-eq}
 use Rattle.centralized_telescope.specs.core.Elements.{Lent}
 use Rattle.centralized_telescope.specs.later.Tickets.{TicketWritten, ticket_written, ticket_written_by, TicketRead, ticket_read, ticket_read_by}
 use Rattle.centralized_telescope.specs.declared.ticket.TicketBlocks.{TicketBlocks}
-use Rattle.centralized_telescope.specs.declared.ticket.TicketBlocks.TheVariants as blocksAnswer
+use Rattle.centralized_telescope.specs.declared.ticket.TicketBlocks.TheVariants as blocks_answer
 use Rattle.centralized_telescope.specs.declared.ticket.TicketProof.{TicketProof}
-use Rattle.centralized_telescope.specs.declared.ticket.TicketProof.TheVariants as proofAnswer
+use Rattle.centralized_telescope.specs.declared.ticket.TicketProof.TheVariants as proof_answer
 use Rattle.harness_exports.specs.declared.BlocksNumbers.{BlocksNumbers}
 use Rattle.harness_exports.specs.declared.ReadNumbers.{ReadNumbers}
 use Rattle.harness_exports.specs.Exported.{in_blocks_numbers, blocks_numbers, with_first, exported_write_ticket, in_read_numbers, read_numbers}

@@ -4,9 +4,9 @@ use Rattle.std.specs.Prelude.{◌≡◌, ℕ, zero, suc, ◌+◌, ◌*◌, ◌^�
 use Rattle.std.proofs.Math.Option.{Option}
 use Rattle.sampling.specs.core.BigEndian.{big_endian, bytes_of}
 use Rattle.centralized_telescope.specs.declared.ticket.TicketBlocks.{TicketBlocks}
-use Rattle.centralized_telescope.specs.declared.ticket.TicketBlocks.TheVariants as blocksAnswer
+use Rattle.centralized_telescope.specs.declared.ticket.TicketBlocks.TheVariants as blocks_answer
 use Rattle.centralized_telescope.specs.declared.ticket.TicketProof.{TicketProof}
-use Rattle.centralized_telescope.specs.declared.ticket.TicketProof.TheVariants as proofAnswer
+use Rattle.centralized_telescope.specs.declared.ticket.TicketProof.TheVariants as proof_answer
 use Rattle.centralized_telescope.specs.core.Lists.{Each, some_of, over}
 use Rattle.sampling.specs.core.FirstNumber.{line, first_number}
 use Rattle.centralized_telescope.specs.later.Words.{same_numbers, number_of}
