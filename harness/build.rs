@@ -1,4 +1,4 @@
-//! Links the static libraries that `rt staticlib` wrote: from the repository's target/staticlib, or from the folder in ALBA_STATICLIB.
+//! Links the static libraries that tools/build made: from the repository's target/staticlib, or from the folder in ALBA_STATICLIB.
 
 use std::{env, path::PathBuf, process};
 
@@ -19,7 +19,7 @@ fn main() {
         let archive = folder.join(format!("lib{name}.a"));
         println!("cargo:rerun-if-changed={}", archive.display());
         if !archive.is_file() {
-            stop(&format!("{} is missing; `rt staticlib {name}` writes it", archive.display()));
+            stop(&format!("{} is missing; `tools/build lib{name}.a` makes it", archive.display()));
         }
         println!("cargo:rustc-link-lib=static={name}");
     }

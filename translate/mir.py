@@ -1,4 +1,4 @@
-"""The text that `rt mir` prints: words, "names" and lists in parentheses; the types that it writes, and the functions that it defines."""
+"""The text that rlib_mir.py prints: words, "names" and lists in parentheses; the types that it writes, and the functions that it defines."""
 import re
 
 WIDTHS = (8, 16, 32, 64)
@@ -146,7 +146,7 @@ class Program:
         self.functions, self.declared = {}, {}
         nodes = parse(text)
         if len(nodes) % 3 != 0 or not nodes:
-            raise Stop("the text isn't what `rt mir` prints")
+            raise Stop("the text isn't what rlib_mir.py prints")
         for i in range(0, len(nodes), 3):
             one_of(nodes[i], ("program",))
             for definition in items(nodes[i + 1]):

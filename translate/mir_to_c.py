@@ -1,8 +1,8 @@
 #!/usr/bin/env python3
 """
-From the proved MIR of Rattle crates to one C99 file: `mir_to_c.py EXPORT.. < MIR > FILE.c`, where MIR is what `rt mir NAME` prints, of one
-crate or of several one after the other, and EXPORT the path of a function to be called from C. The functions that the exports reach are
-translated one by one, each statement by itself. Nothing is optimized. What is not in the tables below ends the run with a message.
+From the proved MIR of Rattle crates to one C99 file: `mir_to_c.py EXPORT.. < MIR > FILE.c`, where MIR is what rlib_mir.py prints of built
+libraries, and EXPORT the path of a function to be called from C. The functions that the exports reach are translated one by one, each
+statement by itself. Nothing is optimized. What is not in the tables below ends the run with a message.
 
 MIR's grammar, and what each form becomes. The meaning of each is that of the kit's logic (Mir/Syntax, Mir/Val, Prog/Memory, Prog/Machine).
 
@@ -22,7 +22,7 @@ MIR's grammar, and what each form becomes. The meaning of each is that of the ki
   tyStruct "&[]" ..               struct slice: an address and a count of elements in 64 bits; any other struct spelled out is refused
   tyNamed (pair NAME ..)          the declared struct, fields f0.., or the enum: a tag, which is the variant's position, and a union
                                   with a struct v0.. for each variant that has fields
-  tyEnum                          refused: `rt mir` prints an enum by its name
+  tyEnum                          refused: an enum is printed by its name
 
   place LOCAL STEPS               an lvalue: the local, and then step by step
     deref TYPE                    (*(TYPE *)address), of the type that lies there; at the end of an addrOf it is the address itself
@@ -30,7 +30,7 @@ MIR's grammar, and what each form becomes. The meaning of each is that of the ki
     variant V                     what the next field is one of
   copy PLACE                      the lvalue
   int W N, float F N              a constant by its number, or by its bits
-  intNeg W K, intBig W N          refused: in the logic 2^W - K, and N with a proof that it fits; `rt mir` prints either as int
+  intNeg W K, intBig W N          refused: in the logic 2^W - K, and N with a proof that it fits; either is printed as int
   ptrConst N                      refused: the logic gives it no meaning
   true, false, unit               1, 0, nothing
 
@@ -41,6 +41,7 @@ MIR's grammar, and what each form becomes. The meaning of each is that of the ki
   repeat X N                      X read once, and a loop that writes it N times
   op1 OP X, op2 OP X Y            OP on operands that are cast so that C computes in unsigned numbers, and cast to the result's type:
     add sub mul S, and or xor shl   in uint32_t for narrower ones, in uint64_t for a signed one; the number that MIR has proved to fit
+    wrapAdd wrapSub wrapMul         the same, unsigned: the number that fits, by a multiple of 2^W
     div rem shr lt le S             signed ones by the signed_W of their operands, shr by shift_signed
     eq ne not                     == != ~, and ! for a bool
     cast S S W                    a C cast of X, or of signed_W of X where the first S is signed
@@ -82,6 +83,7 @@ from mir import (ADDRESS, BOOL, FLOATS, U8, U32, U64, UNIT, Program, Stop, brief
 
 SIGNS = ("unsigned", "signed")
 ARITHMETIC = {"add": "+", "sub": "-", "mul": "*"}
+WRAPPING = {"wrapAdd": "+", "wrapSub": "-", "wrapMul": "*"}
 BITWISE = {"and": "&", "or": "|", "xor": "^"}
 DIVIDING = {"div": "/", "rem": "%"}
 ORDER = {"lt": "<", "le": "<="}
@@ -287,6 +289,8 @@ class Function:
             return f"(uint8_t)({x} {EQUALITY[word]} {y})", BOOL
         if sign is None and word in BITWISE | {"shl": "<<"}:
             return f"({c_type})({self.wide(x, t)} {(BITWISE | {'shl': '<<'})[word]} {y})", t
+        if sign is None and word in WRAPPING:
+            return f"({c_type})({self.wide(x, t)} {WRAPPING[word]} {self.wide(y, t)})", t
         if sign in SIGNS and word in ARITHMETIC:
             return f"({c_type})({self.wide(x, t, sign)} {ARITHMETIC[word]} {self.wide(y, t, sign)})", t
         if sign == "signed" and word == "shr":

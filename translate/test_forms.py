@@ -97,7 +97,8 @@ def binary(word, sign, width, a, b):
         return None
     if word in ("shl", "shr") and b >= width:
         return None
-    z = {"add": lambda: x + y, "sub": lambda: x - y, "mul": lambda: x * y, "div": lambda: quotient(x, y),
+    z = {"add": lambda: x + y, "sub": lambda: x - y, "mul": lambda: x * y, "wrapAdd": lambda: a + b, "wrapSub": lambda: a - b,
+         "wrapMul": lambda: a * b, "div": lambda: quotient(x, y),
          "rem": lambda: x - y * quotient(x, y), "shr": lambda: x >> b, "lt": lambda: int(x < y), "le": lambda: int(x <= y),
          "and": lambda: a & b, "or": lambda: a | b,
          "xor": lambda: a ^ b, "shl": lambda: (a << b) % (1 << width), "eq": lambda: int(a == b), "ne": lambda: int(a != b)}[word]()
@@ -107,7 +108,7 @@ def binary(word, sign, width, a, b):
 def binaries(width):
     t = f"(tyInt {width})"
     signs = [(word, sign) for word in ("add", "sub", "mul", "div", "rem", "shr", "lt", "le") for sign in ("unsigned", "signed")]
-    for word, sign in signs + [(word, None) for word in ("and", "or", "xor", "shl", "eq", "ne")]:
+    for word, sign in signs + [(word, None) for word in ("and", "or", "xor", "shl", "eq", "ne", "wrapAdd", "wrapSub", "wrapMul")]:
         name = f"{word}_{sign or 'bits'}_{width}"
         op = f"({word} {sign})" if sign else word
         result = BOOL if word in ("lt", "le", "eq", "ne") else t
@@ -481,7 +482,7 @@ def refused():
         program([function("one", 0, [U8], seq(call("one", [], place(0)), "return"))]): "circle",
         program([function("one", 0, [U8], '(call (foreign "abs") lnil (place 0 lnil))')]): "direct",
         program([function("one", 0, [U8], seq(call("none", [], place(0)), "return"))]): "forms::none",
-        program([function("one", 1, [U8, PAIR], "return", TYPES)]): "export", program([]) + ")": "too many", "program": "rt mir",
+        program([function("one", 1, [U8, PAIR], "return", TYPES)]): "export", program([]) + ")": "too many", "program": "rlib_mir",
     }
     failed = 0
     for text, due in texts.items():

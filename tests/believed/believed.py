@@ -62,6 +62,15 @@ def words(line: str) -> list[str]:
     return re.findall(r"[^ \t]+", line)
 
 
+def one_by_one(text: str) -> str:
+    """src/lib.rt with a line for each name that `pub use MODULE::{NAME, ..};` makes public, however many lines that takes."""
+    return re.sub(
+        r"(?m)^pub use (\w+)::\{([^}]*)\};$",
+        lambda listed: "\n".join(f"pub use {listed.group(1)}::{name};" for name in re.findall(r"\w+", listed.group(2))),
+        text,
+    )
+
+
 class Reading:
     """One file, line by line, into what is found."""
 
@@ -87,8 +96,8 @@ class Reading:
 
     def imports(self, number: int, line: str) -> None:
         """Names from a module of specs/, or the module under another name."""
-        rest = re.sub(r"^(pub |ghost )*use Rattle·", "", line)
-        of = re.split(r"\.|·", rest, maxsplit=1)[0]
+        rest = re.sub(r"^(pub |ghost )*use Rattle\.", "", line)
+        of = rest.split(".", 1)[0]
         below = re.match(r"[^.]*\.specs\.(.*)", rest)
         if not below:
             return
@@ -198,6 +207,7 @@ def read(crates: Path) -> Found:
             text = (crates / path).read_text(encoding="utf-8", errors="surrogateescape")
         except OSError as error:
             raise Stop(f"{path} can't be read: {error.strerror}") from error
+        text = one_by_one(text) if path.endswith("src/lib.rt") else text
         reading = Reading(found, path)
         for number, line in enumerate(text.removesuffix("\n").split("\n") if text else (), 1):
             reading.line(number, line)
@@ -207,8 +217,8 @@ def read(crates: Path) -> Found:
 
 
 def meaning(found: Found, path: str, owner: str, word: str) -> str:
-    """The definition that a word of a file means, or nothing. An operator is used without the underscores of its name."""
-    for name in (word, f"_{word}_"):
+    """The definition that a word of a file means, or nothing. An operator is used without the circles of its name."""
+    for name in (word, f"◌{word}◌"):
         if f"{owner}.{name}" in found.home:
             return f"{owner}.{name}"
         if (path, name) in found.imported:

@@ -13,16 +13,16 @@ sys.path.insert(0, str(Path(__file__).resolve().parent))
 from believed import CRATES, Count, Stop, main, table  # noqa: E402
 
 LIB = "mod door;\n\npub use door::open;\n"
-DOOR = """ghost use Rattle·sampling·specs.specs.Words.{opened};
+DOOR = """ghost use Rattle.sampling.specs.Words.{opened};
 
 pub fn open(x: u8) -> u8
-    ensures { λ r. ⌜ r ≡ opened x ⌝ }
+    ensures { result ≡ opened x }
 {
     x
 }
 """
 WORDS = """-- what it says
-use Prim.Native.Nat.{ℕ}
+use Rattle.std.specs.Prelude.{ℕ}
 
 -- the answer
 abbrev pub opened : ℕ → ℕ
@@ -64,7 +64,7 @@ class Tree(unittest.TestCase):
         self.assertEqual(self.row(), [("sampling/specs/Words.antt", 5, 2, 2)])
 
     def test_what_is_unreached_is_said(self):
-        self.put("sampling/proofs/Use.antt", "use Rattle·sampling·specs.specs.Words.{spare, half}\n")
+        self.put("sampling/proofs/Use.antt", "use Rattle.sampling.specs.Words.{spare, half}\n")
         self.assertEqual(self.count().unreached(), ["sampling/specs/Words.antt spare, 2 lines: sampling/proofs/Use.antt"])
 
     def test_what_is_imported_by_nothing_is_said_so(self):
@@ -102,14 +102,23 @@ class Tree(unittest.TestCase):
         with self.assertRaisesRegex(Stop, "there is no public function sampling/door::shut"):
             self.count()
 
+    def test_names_that_one_line_or_several_make_public(self):
+        self.put("sampling/src/door.rt", DOOR + DOOR.split("\n", 1)[1].replace("open(", "shut(").replace("opened", "spare"))
+        for listed in ("{open, shut}", "{\n    open,\n    shut,\n}"):
+            self.put("sampling/src/lib.rt", f"mod door;\n\npub use door::{listed};\n")
+            self.assertEqual(list(self.count().found.functions), ["sampling/door::open", "sampling/door::shut"])
+        self.put("sampling/src/lib.rt", "mod door;\n\npub use door::{open, shuts};\n")
+        with self.assertRaisesRegex(Stop, "there is no public function sampling/door::shuts"):
+            self.count()
+
     def test_modules_by_another_name_operators_and_infix(self):
         self.put("sampling/specs/Lib.antt", "pub mod Words\npub mod Sums\n")
-        self.put("sampling/specs/Sums.antt", "infixl 6 _⊞_\nabbrev pub _⊞_ : ℕ → ℕ → ℕ\na ⊞ b = a\n")
-        uses = WORDS.replace("half x -- see below", "(s._⊞_ x)")
-        self.put("sampling/specs/Words.antt", "use Rattle·sampling·specs.specs.Sums as s;\n" + uses)
+        self.put("sampling/specs/Sums.antt", "infixl 6 ◌⊞◌\nabbrev pub ◌⊞◌ : ℕ → ℕ → ℕ\na ⊞ b = a\n")
+        uses = WORDS.replace("half x -- see below", "(s.◌⊞◌ x)")
+        self.put("sampling/specs/Words.antt", "use Rattle.sampling.specs.Sums as s;\n" + uses)
         self.assertEqual(self.row(), [("sampling/specs/Words.antt", 2, 1, 5), ("sampling/specs/Sums.antt", 3, 1, 0)])
         uses = WORDS.replace("half x -- see below", "x ⊞ x")
-        self.put("sampling/specs/Words.antt", "use Rattle·sampling·specs.specs.Sums.{_⊞_}\n" + uses)
+        self.put("sampling/specs/Words.antt", "use Rattle.sampling.specs.Sums.{◌⊞◌}\n" + uses)
         self.assertEqual(self.row(), [("sampling/specs/Words.antt", 2, 1, 5), ("sampling/specs/Sums.antt", 3, 1, 0)])
 
     def test_a_module_around_is_counted_with_what_it_holds(self):
@@ -123,7 +132,7 @@ class Tree(unittest.TestCase):
 
     def test_laws_are_outside(self):
         self.put("sampling/specs/laws/More.antt", "pub law : ℕ\nlaw = 1\n")
-        self.put("sampling/specs/Words.antt", "use Rattle·sampling·specs.specs.laws.More.{law}\n" + WORDS.replace("half x --", "law --"))
+        self.put("sampling/specs/Words.antt", "use Rattle.sampling.specs.laws.More.{law}\n" + WORDS.replace("half x --", "law --"))
         self.assertEqual(self.count().outside(), ["sampling/specs/laws/More.antt law: reached, but outside the reading order"])
 
     def tiers(self, core, later):
@@ -145,17 +154,17 @@ class Tree(unittest.TestCase):
         self.assertEqual((count.misplaced(), count.unreached(), count.outside()), ([], [], []))
 
     def test_what_the_core_reaches_is_in_the_core(self):
-        core = "use Rattle·sampling·specs.specs.later.More.{more}\nabbrev pub opened : ℕ → ℕ\nopened x = more\n"
+        core = "use Rattle.sampling.specs.later.More.{more}\nabbrev pub opened : ℕ → ℕ\nopened x = more\n"
         count = self.tiers(core, "abbrev pub more : ℕ\nmore = 1\n")
         self.assertEqual(count.misplaced(), ["sampling/specs/later/More.antt more: the core reaches it"])
 
     def test_what_no_call_of_the_core_reaches_is_not(self):
-        later = "use Rattle·sampling·specs.specs.core.Words.{half}\nabbrev pub more : ℕ\nmore = half 1\n"
+        later = "use Rattle.sampling.specs.core.Words.{half}\nabbrev pub more : ℕ\nmore = half 1\n"
         count = self.tiers("abbrev pub opened : ℕ → ℕ\nopened x = x\n\nabbrev pub half : ℕ → ℕ\nhalf x = x\n", later)
         self.assertEqual(count.misplaced(), ["sampling/specs/core/Words.antt half: no call of the core reaches it"])
 
     def test_an_import_over_two_lines_is_refused(self):
-        self.put("sampling/proofs/Use.antt", "use Rattle·sampling·specs.specs.Words.{half,\n  spare}\n")
+        self.put("sampling/proofs/Use.antt", "use Rattle.sampling.specs.Words.{half,\n  spare}\n")
         with self.assertRaisesRegex(Stop, "sampling/proofs/Use.antt:1: an import that goes on in another line"):
             self.count()
 

@@ -108,7 +108,7 @@ def wrong_name(tree: Tree, one: Named) -> str:
     if one.name.startswith("harness "):
         command = one.name.split(" ")[1]
         return "" if f"Command::{command.capitalize()}" in tree.text("harness/src/main.rs") else f"the harness has no command {command}"
-    if "·" in one.name or one.name in ("requires", "ensures"):
+    if one.name.startswith("Rattle.") or one.name in ("requires", "ensures"):
         return ""
     files = tree.found(one.path) if one.path else ()
     if one.path and not files:

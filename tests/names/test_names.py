@@ -18,19 +18,19 @@ FILES = {
     "crates/sampling/specs/Lib.antt": "pub mod Words\n",
     "crates/sampling/specs/Words.antt": "-- what it says\nabbrev pub opened : ℕ → ℕ\nopened x = x\n",
     "crates/sampling/src/lib.rt": "mod door;\npub use door::open;\n",
-    "crates/sampling/src/door.rt": "ghost use Rattle·sampling·specs.specs.Words.{opened};\n\n"
-    "pub fn open(x: u8) -> u8\n    ensures { λ r. ⌜ r ≡ opened x ⌝ }\n{\n    x\n}\n\nfn latch() {}\n",
+    "crates/sampling/src/door.rt": "ghost use Rattle.sampling.specs.Words.{opened};\n\n"
+    "pub fn open(x: u8) -> u8\n    ensures { result ≡ opened x }\n{\n    x\n}\n\nfn latch() {}\n",
     "crates/centralized_telescope/specs/Lib.antt": "pub mod Demand3\n",
     "crates/centralized_telescope/specs/Demand3.antt": "pub record Demand3 (x : ℕ) : Type 0 where\n  pub one : x ≡ 1\n  pub two : x ≡ 2\n\n"
     "abbrev pub demand3 : Type 0\ndemand3 = Demand3 1\n",
     "crates/centralized_telescope/src/lib.rt": "mod theorems;\npub use theorems::demand_3;\n",
-    "crates/centralized_telescope/src/theorems.rt": "ghost use Rattle·centralized_telescope·specs.specs.Demand3.{demand3};\n\n"
-    "pub fn demand_3()\n    ensures { λ _. ⌜ demand3 ⌝ }\n{}\n",
+    "crates/centralized_telescope/src/theorems.rt": "ghost use Rattle.centralized_telescope.specs.Demand3.{demand3};\n\n"
+    "pub fn demand_3()\n    ensures { demand3 }\n{}\n",
     "crates/soundness/specs/Lib.antt": "pub mod Green\n",
     "crates/soundness/specs/Green.antt": "abbrev pub green : Type 0\ngreen = ℕ\n",
     "crates/soundness/src/lib.rt": "mod theorems;\npub use theorems::is_green;\n",
-    "crates/soundness/src/theorems.rt": "ghost use Rattle·soundness·specs.specs.Green.{green};\n\n"
-    "pub fn is_green()\n    ensures { λ _. ⌜ green ⌝ }\n{}\n",
+    "crates/soundness/src/theorems.rt": "ghost use Rattle.soundness.specs.Green.{green};\n\n"
+    "pub fn is_green()\n    ensures { green }\n{}\n",
     "translate/wrong_translations": 'OTHER = (1,)\nWRONG = (\n    ("one", "a", "b"),\n    ("two", "a", "b"),\n)\n',
     "harness/src/main.rs": "Command::Compare => compare(),\n",
     "crates/sampling/must-fail/open_left.edit": "file: src/door.rt\nold: x\nnew: y\nfirst: a b\n",
@@ -210,8 +210,8 @@ class Made(MadeTree):
         )
 
     def test_what_is_declared(self):
-        antt = "-- not : this\nabbrev pub a : ℕ\na = b 1\npub record R (x : ℕ) : Type 0 where\n  pub f-1 : ℕ\n  case : R\npub _⊞_ : ℕ\n"
-        self.assertLessEqual({"a", "R", "f-1", "case", "_⊞_"}, declared_in_antt(antt))
+        antt = "-- not : this\nabbrev pub a : ℕ\na = b 1\npub record R (x : ℕ) : Type 0 where\n  pub f-1 : ℕ\n  case : R\npub ◌⊞◌ : ℕ\n"
+        self.assertLessEqual({"a", "R", "f-1", "case", "◌⊞◌"}, declared_in_antt(antt))
         self.assertFalse(declared_in_antt(antt) & {"not", "this", "x", "b", "=", "ℕ", "where"})
         rust = "pub struct S {}\nimpl S {\n    pub fn new() {}\n}\npub extern \"C\" fn c() {}\n// fn no\nconst K: u8 = 1;\n"
         self.assertEqual(declared_in_rust(rust), {"S", "new", "S::new", "c", "K"})

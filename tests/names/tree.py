@@ -7,7 +7,7 @@ from pathlib import Path
 TOP = Path(__file__).resolve().parents[2]
 for _folder in ("believed", "wrong_programs"):
     sys.path.insert(0, str(TOP / "tests" / _folder))
-from believed import CRATES, Count  # noqa: E402
+from believed import CRATES, Count, one_by_one  # noqa: E402
 from edits import Edit, edits_of, misplaced, named_twice  # noqa: E402
 
 # A name before its colon; a marked one, a record or a data type also before its arguments.
@@ -101,8 +101,10 @@ class Tree:
     @cached_property
     def theorems(self) -> list[str]:
         """As `theorems` of .ci/run reads them."""
-        libs = [self.text(f"crates/{crate}/src/lib.rt") for crate in CRATES]
-        return [name for lib in libs for name in re.findall(r"(?m)^pub use theorems::(\w+);$", lib)]
+        return [name for crate in CRATES for name in self.theorems_of(crate)]
+
+    def theorems_of(self, crate: str) -> list[str]:
+        return re.findall(r"(?m)^pub use theorems::(\w+);$", one_by_one(self.text(f"crates/{crate}/src/lib.rt")))
 
     @cached_property
     def calls(self) -> set[str]:

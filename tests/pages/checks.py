@@ -66,8 +66,9 @@ def wrong_page_paths(tree: Tree, page: str, text: str) -> Iterator[Wrong]:
 def words(top: Path) -> frozenset[str]:
     """Every word that stands in the tree, pages apart, and the names of its files."""
     found: set[str] = set()
-    for folder in ("crates", "harness", "c", "dist", "translate", "tests", ".ci"):
-        for file in (top / folder).rglob("*"):
+    made = set((top / "crates").glob("*/out"))
+    for folder in (*(top / "crates").glob("*/*"), *(top / name for name in ("harness", "c", "dist", "tools", "translate", "tests", ".ci"))):
+        for file in () if folder in made else (folder, *folder.rglob("*")):
             if file.is_file() and file.suffix not in (".md", ".svg") and "pages" not in file.parts[-2:-1]:
                 found |= {file.name, file.stem, *re.findall(r"\w+", file.read_text(encoding="utf-8", errors="replace"))}
     return frozenset(found)

@@ -1,5 +1,5 @@
 """
-What `rt dev` said of an edited crate, and whether that is the refusal that the edit asks for. Nothing is run here: all is read from the
+What `rt check` said of an edited crate, and whether that is the refusal that the edit asks for. Nothing is run here: all is read from the
 text that the checker printed, so that it can be tested with such texts.
 """
 import re
@@ -26,42 +26,42 @@ class Refusal:
         return f"{self.file} {self.declaration}"
 
 
-def refusal(lines: list[str], root: str) -> Refusal:
-    """Of the lines of a message: place and declaration are said in the first."""
+def refusal(lines: list[str]) -> Refusal:
+    """Of the lines of a message: place and declaration are said in the first. Paths go from the crate's folder."""
     head, text = lines[0], " ".join(lines)
     at = re.search(r":([0-9]+):[0-9]+: ", head)
     file = head[: at.start()] if at else head
     name = re.sub(r"`.*", "", re.sub(r"^[^`]*`", "", head))
     follows = re.search(r"(was|is) not admitted", text)
-    return Refusal(not follows, file.replace(root, "", 1), re.sub(r".*::", "", name), text, int(at.group(1)) if at else 0)
+    return Refusal(not follows, file.removeprefix("./"), re.sub(r".*::", "", name), text, int(at.group(1)) if at else 0)
 
 
-def refusals(said: str, root: str) -> list[Refusal]:
+def refusals(said: str) -> list[Refusal]:
     """
-    What the checker refused in the crate at `root`, in the order in which it says so. A function that the checker proves by itself is
-    refused by a note, any other by an error in its proof; lines that begin with a space go on with the message.
+    What the checker refused in the crate, in the order in which it says so. A function that the checker proves by itself is refused by a
+    note, any other by an error in its proof; lines that begin with a space go on with the message.
     """
     messages: list[list[str]] = []
     going_on = False
     for line in said.split("\n"):
-        if re.match(r"[^ ].*: error: |note: .*: it is not proved that ", line):
-            messages.append([line.removeprefix("note: ")])
+        if re.match(r"[^ ].*: error: |(so far: )?note: .*: it is not proved that ", line):
+            messages.append([line.removeprefix("so far: ").removeprefix("note: ")])
             going_on = True
         elif not line.startswith(" "):
             going_on = False
         elif going_on:
             messages[-1].append(line)
-    return [refusal(lines, root) for lines in messages]
+    return [refusal(lines) for lines in messages]
 
 
 def only_shape(declaration: str, message: str) -> bool:
     """
-    It only says that the code has another shape. A step more or less shows as a need or a field that isn't there, as an invariant or
-    measure that finds another variable in a place, or where a proof's answers are put together.
+    It only says that the code has another shape. A step more or less shows as a goal or a field that isn't there, as an invariant or
+    measure that finds another variable in a place, or, of a proof that walks the code by hand, where its answers are put together.
     """
-    if re.match(r"(Inv|μ)-", declaration) or declaration.endswith("-spec"):
+    if re.match(r"(invariant|decreases|Inv|μ)-", declaration) or declaration.endswith("-spec"):
         return True
-    return bool(re.search(r"has no `Need-|has no field|expected type `tie\.Need-|is not in scope", message))
+    return bool(re.search(r"has no `[^`]*` that can be named|has no `Need-|has no field|expected type `tie\.Need-|is not in scope", message))
 
 
 def placed(place: str, errors: list[Refusal], first: Refusal) -> str:
@@ -86,6 +86,7 @@ def refused_field(wanted: str, refused: list[Refusal], line_of: Callable[[str, i
 
 def places(edit: Edit, own: list[Refusal]) -> list[str]:
     """The lines `own:` or `first:` that the edit could have, and the first error's text if it has another."""
+    own = [one for one in own if not only_shape(one.declaration, one.message)] or own
     first = f"first: {own[0].place}"
     said = [first]
     if edit.values("own") or edit.values("theorem"):
@@ -93,7 +94,7 @@ def places(edit: Edit, own: list[Refusal]) -> list[str]:
     return said + ([] if first in edit.lines else [own[0].message])
 
 
-def judgement(edit: Edit, status: int, said: str, root: str, line_of: Callable[[str, int], str], only_places: bool = False) -> list[str]:
+def judgement(edit: Edit, status: int, said: str, line_of: Callable[[str, int], str], only_places: bool = False) -> list[str]:
     """
     The lines to print of an edit that is refused as it must be, or Refuted with those up to what isn't so. `line_of(FILE, NUMBER)` is a
     line of the crate without the edit.
@@ -103,21 +104,23 @@ def judgement(edit: Edit, status: int, said: str, root: str, line_of: Callable[[
     lines = said.split("\n")
     if not any(line.startswith("logic=not-proved") for line in lines):
         raise Refuted(f"it did not reach the prover: {lines[0]}")
-    refused = refusals(said, root)
+    refused = refusals(said)
     own = [one for one in refused if one.own]
     if not own:
         raise Refuted("refused without a reason")
     if only_places:
         return places(edit, own)
     first, anywhere = edit.values("first"), edit.values("own")
+    # The checker says first of each file what stands for nothing in the code any more.
+    telling = [one for one in own if not only_shape(one.declaration, one.message)] or own
     if len(first) + len(anywhere) != 1:
         raise Refuted("  but the edit has neither a line 'first:' nor a line 'own:'")
-    told = [placed(first[0], own[:1], own[0]) if first else placed(anywhere[0], own, own[0])]
+    told = [placed(first[0], telling[:1], telling[0]) if first else placed(anywhere[0], telling, telling[0])]
     try:
         for field in edit.values("field"):
             told.append(refused_field(field, refused, line_of))
         for theorem in edit.values("theorem"):
-            if f"::theorems::{theorem}: not proved" not in said:
+            if not re.search(rf"::theorems::{theorem}: (not proved|no proof)\b", said):
                 raise Refuted(f"  but the theorem {theorem} is proved")
     except Refuted as why:
         raise Refuted("\n".join([*told, str(why)])) from None

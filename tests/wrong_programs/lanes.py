@@ -1,5 +1,5 @@
 """
-Tries edits with `rt dev`, in two lanes, each with a crate of its own first and then with what is left. A lane is a thread; what it runs is
+Tries edits with `rt check`, in two lanes, each with a crate of its own first and then with what is left. A lane is a thread; what it runs is
 a group of processes of its own, so that all of it ends with this program.
 """
 import os
@@ -61,9 +61,36 @@ class Commands:
                     pass
 
 
-def copy(source: Path, target: Path) -> None:
-    # New times, as `cp -R` gives them, so that a file is never taken for the one that stood there before.
-    shutil.copytree(source, target, symlinks=True, copy_function=shutil.copy)
+def copy(source: Path, target: Path, left: str = "") -> None:
+    """A folder, without its folder `left`. What a check kept is linked, as rt does it: a check replaces such a file, and changes none."""
+
+    def copy_file(one: str, other: str) -> str:
+        if one.endswith(".oantt"):
+            os.link(one, other)
+            return other
+        # New times, as `cp -R` gives them, so that a file is never taken for the one that stood there before.
+        return shutil.copy(one, other)
+
+    def ignored(folder: str, _) -> list[str]:
+        return [left] if folder == str(source) else []
+
+    shutil.copytree(source, target, symlinks=True, copy_function=copy_file, ignore=ignored)
+
+
+def lines_needed(top: Path) -> dict[str, str]:
+    """The lines of crates.txt for CRATES and the repository's crates below them."""
+    lines = {}
+    for line in (top / "crates.txt").read_text(encoding="utf-8").split("\n"):
+        head, colon, _ = line.partition("#")[0].partition(":")
+        if colon and head.split():
+            lines[head.split()[0]] = line
+    needed, queue = {}, list(CRATES)
+    while queue:
+        name = queue.pop(0)
+        if name in lines and name not in needed:
+            needed[name] = lines[name]
+            queue += lines[name].partition("#")[0].partition(":")[2].split()
+    return needed
 
 
 class Tries:
@@ -83,14 +110,14 @@ class Tries:
     # ---- a folder that holds a crate, proved
 
     def prepare(self, crate: str, folder: Path) -> None:
-        """The crate as it stands, proved; from then on the incremental folder holds it."""
-        for name in CRATES:
-            copy(self.top / "crates" / name, folder / "crates" / name)
-        for name in ("rlib", "stamp", "log", "inc"):
-            if name != "inc" or (self.top / "target/inc").is_dir():
-                copy(self.top / "target" / name, folder / "target" / name)
-        shutil.copy(self.top / "crates.txt", folder)
-        status, said = self.commands.run(["rt", "dev", crate], folder)
+        """The crate as it stands, proved; from then on its folder out/ holds that."""
+        needed = lines_needed(self.top)
+        for name in needed:
+            copy(self.top / "crates" / name, folder / "crates" / name, "out")
+        (folder / "crates.txt").write_text("\n".join(needed.values()) + "\n", encoding="utf-8")
+        if (self.top / "HANDLES").is_file():
+            shutil.copy(self.top / "HANDLES", folder)
+        status, said = self.commands.run(["rt", "check"], folder / "crates" / crate)
         if status != 0 or not any(line.startswith("logic=proved") for line in said.split("\n")):
             raise Stop("\n".join(said.rstrip("\n").split("\n")[-20:]) + f"\nwithout an edit `{crate}` is not proved")
 
@@ -124,7 +151,7 @@ class Tries:
         before = {file: file.read_bytes() for file in texts}
         for file, text in texts.items():
             file.write_text(text, encoding="utf-8")
-        status, said = self.commands.run(["rt", "dev", edit.crate], folder)
+        status, said = self.commands.run(["rt", "check", "--jobs", "1"], root)
         for file, text in before.items():
             file.write_bytes(text)
 
@@ -132,7 +159,7 @@ class Tries:
             lines = (root / file).read_text(encoding="utf-8").split("\n") if (root / file).is_file() else []
             return lines[number - 1] if 0 < number <= len(lines) else ""
 
-        return judgement(edit, status, said, f"{root}/", line_of, self.only_places)
+        return judgement(edit, status, said, line_of, self.only_places)
 
     def tried(self, edit: Edit, folder: Path) -> None:
         try:
@@ -216,9 +243,6 @@ def tried(top: Path, work: Path, arguments: list[str]) -> None:
     edits, only_places = asked(top, arguments)
     tries = Tries(top, work, edits, only_places)
     try:
-        status, said = tries.commands.run(["rt", "check", "sampling"], top)
-        if status != 0:
-            raise Stop(f"`sampling` is not proved\n{said}")
         tries.run()
     finally:
         tries.commands.end()

@@ -1,5 +1,5 @@
 #!/usr/bin/env python3
-"""How edits are read, applied and judged, over texts such as `rt dev` prints; and the lanes, with a made-up `rt`. No crate is checked."""
+"""How edits are read, applied and judged, over texts such as `rt check` prints; and the lanes, with a made-up `rt`. No crate is checked."""
 import contextlib
 import io
 import os
@@ -18,13 +18,13 @@ from edits import CRATES, BadEdit, Edit, change, changed_files, misplaced, named
 from judgement import Refuted, judgement, only_shape, refusals  # noqa: E402
 from lanes import Stop, Tries, asked  # noqa: E402
 
-ROOT = "/made/crates/door/"
+ROOT = "./"
 SAID = f"""checking door
-{ROOT}proofs/door/open/Proof.antt:12:5: error: in `door::open::returns`: expected
+{ROOT}proofs/door/open/Answers.antt:12:5: error: `returns`: expected
     opened x
   but it is half x
-{ROOT}proofs/Above.antt:3:1: error: in `all-open`: `door::open::returns` was not admitted
-note: {ROOT}src/door.rt:7:9: it is not proved that `door::shut::returns-2` holds
+{ROOT}proofs/Above.antt:3:1: error: `all-open`: `returns` of proofs/door/open/Answers.antt was not admitted
+note: src/door.rt:7:9: it is not proved that what the function ensures holds when it returns (`returns-2`)
 fn door::theorems::opens: not proved
 logic=not-proved
 """
@@ -40,7 +40,7 @@ def line_of(file, number):
 
 
 def judge(said, *lines, status=1, places=False):
-    return judgement(edit(*lines), status, said, ROOT, line_of, places)
+    return judgement(edit(*lines), status, said, line_of, places)
 
 
 class Change(unittest.TestCase):
@@ -112,7 +112,7 @@ class Files(unittest.TestCase):
 class Rooms(unittest.TestCase):
     def test_the_room_of_an_edit(self):
         self.assertEqual(edit("file: src/door.rt", "old: x", "new: y", "first: a b").room, "door")
-        self.assertEqual(edit("file: specs/Door.antt", "own: proofs/door/open/Proof.antt returns").room, "specs")
+        self.assertEqual(edit("file: specs/Door.antt", "own: proofs/door/open/Answers.antt returns").room, "specs")
         self.assertEqual(edit("file: specs/Door.antt", "file: src/door.rt", "own: a b").room, "door")
         self.assertEqual(edit("file: src/door.rt", "own: a b", "theorem: opens", "theorem: shuts").room, "opens")
 
@@ -131,27 +131,27 @@ class Rooms(unittest.TestCase):
 
 class Refusals(unittest.TestCase):
     def test_errors_notes_and_what_follows(self):
-        found = [(one.own, one.place, one.line) for one in refusals(SAID, ROOT)]
+        found = [(one.own, one.place, one.line) for one in refusals(SAID)]
         expected = [
-            (True, "proofs/door/open/Proof.antt returns", 12),
+            (True, "proofs/door/open/Answers.antt returns", 12),
             (False, "proofs/Above.antt all-open", 3),
             (True, "src/door.rt returns-2", 7),
         ]
         self.assertEqual(found, expected)
 
     def test_a_message_goes_on(self):
-        self.assertIn("opened x", refusals(SAID, ROOT)[0].message)
-        self.assertNotIn("checking", refusals(SAID, ROOT)[0].message)
+        self.assertIn("opened x", refusals(SAID)[0].message)
+        self.assertNotIn("checking", refusals(SAID)[0].message)
 
     def test_what_follows_may_be_said_in_a_later_line(self):
         said = f"{ROOT}a.antt:1:1: error: in `x`: no\n  since `y`\n  is not admitted\nother\n  is not admitted\n"
-        self.assertEqual([one.own for one in refusals(said, ROOT)], [False])
-        self.assertEqual([one.own for one in refusals(said.replace("  is not", "is not", 1), ROOT)], [True])
+        self.assertEqual([one.own for one in refusals(said)], [False])
+        self.assertEqual([one.own for one in refusals(said.replace("  is not", "is not", 1))], [True])
 
     def test_shape(self):
-        for declaration in ("Inv-loop", "μ-loop", "open-spec"):
+        for declaration in ("invariant-loop-i", "decreases-loop-i", "Inv-loop", "μ-loop", "open-spec"):
             self.assertTrue(only_shape(declaration, "it is false"))
-        for message in ("has no `Need-3`", "has no field `x`", "expected type `tie.Need-2`", "`x` is not in scope"):
+        for message in ("module `door.open.Goals` has no `returns-3` that can be named from here", "has no `Need-3`", "has no field `x`", "expected type `tie.Need-2`", "`x` is not in scope"):
             self.assertTrue(only_shape("returns", message))
         self.assertFalse(only_shape("returns", "expected 1 but it is 2"))
         self.assertFalse(only_shape("Invariant", "expected 1 but it is 2"))
@@ -164,13 +164,13 @@ class Judgement(unittest.TestCase):
         self.assertEqual(str(caught.exception), why)
 
     def test_first(self):
-        place = "proofs/door/open/Proof.antt returns"
+        place = "proofs/door/open/Answers.antt returns"
         self.assertEqual(judge(SAID, f"first: {place}"), [f"refused at {place}"])
         self.refuted(f"refused, but not at src/door.rt returns-2; the first error: {place}", SAID, "first: src/door.rt returns-2")
 
     def test_own_may_be_any_but_not_one_that_follows(self):
         self.assertEqual(judge(SAID, "own: src/door.rt returns-2"), ["refused at src/door.rt returns-2"])
-        first = "proofs/door/open/Proof.antt returns"
+        first = "proofs/door/open/Answers.antt returns"
         self.refuted(f"refused, but not at proofs/Above.antt all-open; the first error: {first}", SAID, "own: proofs/Above.antt all-open")
 
     def test_neither_first_nor_own_or_both(self):
@@ -189,6 +189,12 @@ class Judgement(unittest.TestCase):
         for line in ("first: proofs/a.antt returns", "own: proofs/a.antt returns"):
             with self.assertRaisesRegex(Refuted, why):
                 judge(said, line)
+
+    def test_shape_is_passed_over(self):
+        said = f"{ROOT}proofs/a.antt:1:1: error: `returns-3`: module `Goals` has no `returns-3` that can be named from here\n{SAID}"
+        place = "proofs/door/open/Answers.antt returns"
+        self.assertEqual(judge(said, f"first: {place}"), [f"refused at {place}"])
+        self.assertEqual(judge(said, f"own: {place}"), [f"refused at {place}"])
 
     def test_fields(self):
         own = "own: src/door.rt returns-2"
@@ -214,20 +220,20 @@ class Judgement(unittest.TestCase):
         self.refuted("refused at src/door.rt returns-2\n  but the theorem opens is proved", proved, own, "theorem: opens")
 
     def test_places(self):
-        first = "first: proofs/door/open/Proof.antt returns"
+        first = "first: proofs/door/open/Answers.antt returns"
         self.assertEqual(judge(SAID, first, places=True), [first])
         self.assertEqual(judge(SAID, "# none yet", places=True)[0], first)
         self.assertIn("opened x", judge(SAID, "# none yet", places=True)[1])
-        own = ["own: proofs/door/open/Proof.antt returns", "own: src/door.rt returns-2"]
+        own = ["own: proofs/door/open/Answers.antt returns", "own: src/door.rt returns-2"]
         self.assertEqual(judge(SAID, "theorem: opens", places=True)[:2], own)
 
 
 RT = """#!/bin/sh
-# check passes; dev proves a crate unless its file `door` says wrong.
-[ "$1" = check ] && exit 0
-grep -q slow "crates/$2/door" && { sleep 100 & echo $! > "$NOTED"; wait; }
-grep -q wrong "crates/$2/door" || { echo logic=proved; exit 0; }
-echo "$PWD/crates/$2/door:1:1: error: in \\`door\\`: no"
+# In a crate's folder it proves the crate, unless its file `door` says wrong.
+[ "$1" = check ] && [ -f ../../crates.txt ] || exit 2
+grep -q slow door && { sleep 100 & echo $! > "$NOTED"; wait; }
+grep -q wrong door || { echo logic=proved; exit 0; }
+echo "./door:1:1: error: \\`door\\`: no"
 echo logic=not-proved
 exit 1
 """
@@ -243,9 +249,10 @@ class Lanes(unittest.TestCase):
         self.top = Path(folder.name).resolve() / "top"
         for crate in CRATES:
             self.put(f"crates/{crate}/door", "right\n")
-        for name in ("rlib", "stamp", "log"):
-            self.put(f"target/{name}/file", "")
-        self.put("crates.txt", "")
+            self.put(f"crates/{crate}/out/kept", "")
+        self.put("crates/low/door", "right\n")
+        lines = ["# of all", *(f"{crate}: low bytes" for crate in CRATES), "high: sampling", "low: bytes"]
+        self.put("crates.txt", "\n".join(lines) + "\n")
         self.put("bin/rt", RT)
         (self.top / "bin/rt").chmod(0o755)
         self.addCleanup(os.environ.__setitem__, "PATH", os.environ["PATH"])
@@ -290,6 +297,14 @@ class Lanes(unittest.TestCase):
             self.assertEqual(said.count(f"{crate}, {crate}_1:\nrefused at door door\n"), 1)
             self.assertEqual((self.top / f"crates/{crate}/door").read_text(encoding="utf-8"), "right\n")
         self.assertEqual((self.top / "work/sampling/crates/sampling/door").read_text(encoding="utf-8"), "right\n")
+
+    def test_what_a_lane_needs(self):
+        self.put("tests/wrong_programs/sampling/any.edit", WRONG)
+        self.run_all()
+        folder = self.top / "work/sampling"
+        self.assertEqual(sorted(path.name for path in (folder / "crates").iterdir()), sorted([*CRATES, "low"]))
+        self.assertEqual((folder / "crates.txt").read_text(encoding="utf-8").count("\n"), len(CRATES) + 1)
+        self.assertFalse((folder / "crates/sampling/out").exists())
 
     def test_what_fails_is_named(self):
         self.put("tests/wrong_programs/sampling/good.edit", WRONG)

@@ -1,0 +1,252 @@
+#!/usr/bin/env python3
+"""
+The proved MIR of built libraries as the text that mir_to_c.py reads: `rlib_mir.py EXPORT.. -- MIR.json.. > MIR`. A library of Rattle has its
+MIR in its rlib, in toolchain/mir.json: a list of pairs, a function's path and what it is. Printed are the functions that the exports reach,
+and no others, each with the types that it declares.
+
+Nothing is added or left out but what the logic gives no meaning: names of lifetimes, and bounds. In mir.json a body is one list, each
+statement before its parts, and a place, a value or a type is a word or an object with one key, its form; in the text each is a list in
+parentheses. The names of forms are those of mir_to_c.py's head.
+
+A generic function is printed only at types that CALLED_AT has: its text there is written by hand, since the library's own goes through
+closures. What else is generic, or of a form that isn't known here, ends the run with a message.
+"""
+import json
+import sys
+
+from mir import Stop
+
+U8_SLICE = '(tyStruct "&[]" (tcons (tyRef erased {} (tyInt 8)) (tcons (tyInt 64) tnil)))'
+# l0 is the result, which is nothing; l1 is written, l2 is read, l3 counts. The library asks that both are equally long.
+COPY_FROM_SLICE = f"""(fn-def "core::slice::copy_from_slice" (fnItem 0 lnil 2
+  (lcons (local tyUnit valueLocal) (lcons (local {U8_SLICE.format('mut')} valueLocal) (lcons (local {U8_SLICE.format('imm')} valueLocal)
+  (lcons (local (tyInt 64) valueLocal) (lcons (local tyBool valueLocal) (lcons (local tyPtr valueLocal) (lcons (local tyPtr valueLocal)
+  lnil)))))))
+  (seq (assign (place 3 lnil) (rvOpd (int 64 0)))
+  (seq (block (loop
+    (seq (assign (place 4 lnil) (op2 (lt unsigned) (copy (place 3 lnil)) (copy (place 2 (lcons (field 1) lnil)))))
+    (seq (if (copy (place 4 lnil)) skip (exit 1))
+    (seq (assign (place 5 lnil) (op2 offset (copy (place 1 (lcons (field 0) lnil))) (copy (place 3 lnil))))
+    (seq (assign (place 6 lnil) (op2 offset (copy (place 2 (lcons (field 0) lnil))) (copy (place 3 lnil))))
+    (seq (assign (place 5 (lcons (deref (tyInt 8)) lnil)) (rvOpd (copy (place 6 (lcons (deref (tyInt 8)) lnil)))))
+    (assign (place 3 lnil) (op2 (add unsigned) (copy (place 3 lnil)) (int 64 1))))))))))
+  return))))"""
+CALLED_AT = {("core::slice::edits::slice+T::copy_from_slice", '[{"Int": 8}]'): ("core::slice::copy_from_slice", COPY_FROM_SLICE)}
+
+
+def small(word):
+    """LeadingZeros: leadingZeros."""
+    return word[0].lower() + word[1:]
+
+
+def chain(kind, texts):
+    made = f"{kind}nil"
+    for text in reversed(list(texts)):
+        made = f"({kind}cons {text} {made})"
+    return made
+
+
+def form(node):
+    """The form of a node, and what it holds: nothing where it is a word."""
+    if isinstance(node, str):
+        return node, None
+    if isinstance(node, dict) and len(node) == 1:
+        return next(iter(node.items()))
+    raise Stop(f"{str(node)[:80]} is no form of mir.json")
+
+
+def unknown(what, node):
+    return Stop(f"the {what} {str(node)[:80]} is not known")
+
+
+# ---- types
+
+def of_type(node):
+    word, held = form(node)
+    if word in ("Bool", "Unit", "Ptr"):
+        return f"ty{word}"
+    if word in ("Int", "Float"):
+        return f"(ty{word} {held})"
+    if word == "Ref":
+        _, kind, of = held
+        return f"(tyRef erased {small(kind)} {of_type(of)})"
+    if word == "Array" and form(held[1])[0] == "Lit":
+        return f"(tyArray {of_type(held[0])} (lenLit {form(held[1])[1]}))"
+    if word == "Struct":
+        return f'(tyStruct "{held[0]}" {chain("t", map(of_type, held[1]))})'
+    if word == "Named" and not held[1]:
+        return f'(tyNamed (pair "{held[0]["name"]}" lnil))'
+    raise unknown("type", node)
+
+
+def declared(node):
+    if node["type_params"] or node["const_params"]:
+        return None
+    word, held = form(node["shape"])
+    if word == "Fields":
+        return f'(pair "{node["name"]}" (fields {chain("t", map(of_type, held))}))'
+    if word == "Variants":
+        return f'(pair "{node["name"]}" (variants {chain("tt", (chain("t", map(of_type, fields)) for fields in held))}))'
+    raise unknown("shape", node["shape"])
+
+
+# ---- places, operands, values
+
+def step(node):
+    word, held = form(node)
+    if word == "Deref":
+        return f"(deref {of_type(held)})"
+    if word in ("Field", "Variant"):
+        return f"({small(word)} {held})"
+    raise unknown("step", node)
+
+
+def place(node):
+    return f"(place {node['local']} {chain('l', map(step, node['steps']))})"
+
+
+def operand(node):
+    word, held = form(node)
+    if word in ("True", "False", "Unit"):
+        return small(word)
+    if word == "Copy":
+        return f"(copy {place(held)})"
+    if word == "Int":
+        return f"(int {held['width']} {held['value']})"
+    if word == "Float":
+        return f"(float {held['width']} {held['bits']})"
+    raise unknown("operand", node)
+
+
+def operation(node):
+    """A word, or a word with signs and widths."""
+    word, held = form(node)
+    if held is None:
+        return small(word)
+    return f"({' '.join([small(word), *(small(x) if isinstance(x, str) else str(x) for x in (held if isinstance(held, list) else [held]))])})"
+
+
+def value(node):
+    word, held = form(node)
+    if word == "Opd":
+        return f"(rvOpd {operand(held)})"
+    if word == "AddrOf":
+        return f"(addrOf {place(held)})"
+    if word == "Aggregate":
+        return f"(aggregate {chain('l', map(operand, held))})"
+    if word == "Repeat" and form(held[1])[0] == "Lit":
+        return f"(repeat {operand(held[0])} {form(held[1])[1]})"
+    if word in ("Op1", "Op2"):
+        return f"({small(word)} {operation(held[0])} {' '.join(map(operand, held[1:]))})"
+    raise unknown("value", node)
+
+
+# ---- functions
+
+class Body:
+    """A function's statements, read one after the other, and the paths that it calls."""
+
+    def __init__(self, nodes):
+        self.nodes, self.at, self.calls = nodes, 0, []
+
+    def whole(self):
+        text = self.statement()
+        if self.at != len(self.nodes):
+            raise Stop("a body goes on behind its end")
+        return text
+
+    def statement(self):
+        if self.at == len(self.nodes):
+            raise Stop("a body ends within a statement")
+        word, held = form(self.nodes[self.at])
+        self.at += 1
+        if word == "Seq":
+            # Not by itself for the second, since a body is a long chain of these.
+            texts = [self.statement()]
+            while self.at < len(self.nodes) and self.nodes[self.at] == "Seq":
+                self.at += 1
+                texts.append(self.statement())
+            return "".join(f"(seq {text} " for text in texts) + self.statement() + ")" * len(texts)
+        if word in ("Skip", "Return"):
+            return small(word)
+        if word in ("Block", "Loop"):
+            return f"({small(word)} {self.statement()})"
+        if word == "Exit":
+            return f"(exit {held})"
+        if word == "If":
+            return f"(if {operand(held)} {self.statement()} {self.statement()})"
+        if word == "Assign":
+            return f"(assign {place(held[0])} {value(held[1])})"
+        if word == "Switch":
+            return self.switch(*held)
+        if word == "Call":
+            return self.call(*held)
+        raise unknown("statement", {word: held})
+
+    def switch(self, on, keys, has_default):
+        arms = [f"(arm {chain('l', map(str, of))} {self.statement()} " for of in keys]
+        default = f"(default {self.statement()})" if has_default else "noDefault"
+        return f"(switch {operand(on)} {''.join(arms)}{default}{')' * len(arms)})"
+
+    def call(self, callee, arguments, to):
+        word, held = form(callee)
+        if word != "Fn":
+            raise unknown("call", callee)
+        path, types = held[0], held[1]["types"]
+        if types:
+            path, _ = CALLED_AT.get((path, json.dumps(types)), (None, None))
+        if path is None:
+            raise Stop(f"{held[0]} is called at the types {json.dumps(types)[:80]}, which CALLED_AT hasn't")
+        self.calls.append(path)
+        return f'(call (direct (fnRef "{path}")) {chain("l", map(operand, arguments))} {place(to)})'
+
+
+class Functions:
+    """Those of some libraries, by their paths."""
+
+    def __init__(self, files):
+        self.items, self.texts = {}, {}
+        for file in files:
+            with open(file, encoding="utf-8") as opened:
+                self.items.update(json.load(opened))
+        self.by_hand = dict(CALLED_AT.values())
+
+    def print(self, path):
+        """The function, and before it what it calls."""
+        if path in self.texts:
+            return
+        self.texts[path] = ""
+        if path in self.by_hand:
+            self.texts[path] = self.by_hand[path]
+            return
+        if path not in self.items:
+            raise Stop(f"there is no function {path}")
+        item = self.items[path]
+        try:
+            body = Body(item["body"])
+            made = body.whole()
+            locals_ = chain("l", (f"(local {of_type(local['ty'])} {small(local['home'])})" for local in item["locals"]))
+            types = chain("l", filter(None, map(declared, item["types"])))
+        except Stop as problem:
+            raise Stop(f"{path}: {problem}") from None
+        for callee in body.calls:
+            self.print(callee)
+        self.texts[path] = f'(fn-def "{path}" (fnItem {item["lifetimes"]} lnil {item["params"]} {locals_} {made}) {types})'
+
+
+def main(arguments):
+    if "--" not in arguments[1:-1]:
+        raise Stop("usage: rlib_mir.py EXPORT.. -- MIR.json..")
+    at = arguments.index("--")
+    functions = Functions(arguments[at + 1:])
+    sys.setrecursionlimit(10000)
+    for path in arguments[:at]:
+        functions.print(path)
+    print("program " + chain("l", ("\n" + text for text in functions.texts.values())) + " none")
+
+
+if __name__ == "__main__":
+    try:
+        main(sys.argv[1:])
+    except Stop as problem:
+        sys.exit(f"rlib_mir: {problem}")
