@@ -65,6 +65,7 @@ MIR's grammar, and what each form becomes. The meaning of each is that of the ki
   switch X ARMS                   switch (X) with the arms' keys as cases and a break behind each arm that may end
     arm KEYS A ARMS, default A    case KEY: A; default: A
     noDefault                     the last arm is the default too: no other key comes, so much is proved
+  lendStatic PLACE TYPE (ints W NS)   PLACE = the address of a static const array of the numbers NS, of W bits each
   call (direct (fnRef F)) XS PLACE   PLACE = F(XS); the address of PLACE, where it goes through a deref, is found after the call
   call (foreign ..) ..            refused
   return                          return l0;
@@ -358,7 +359,7 @@ class Function:
             self.emit("return;" if self.locals[0] == UNIT else "return l0;")
         elif node != "skip":
             forms = {"assign": (self.assign, 2), "if": (self.branch, 3), "block": (self.block, 1), "loop": (self.loop, 1),
-                     "exit": (self.exit, 1), "switch": (self.switch, 2), "call": (self.call, 3)}
+                     "exit": (self.exit, 1), "switch": (self.switch, 2), "call": (self.call, 3), "lendStatic": (self.lend_static, 3)}
             if word not in forms:
                 raise Stop(f"the statement {brief(node)} is not known")
             form, count = forms[word]
@@ -400,6 +401,24 @@ class Function:
         self.emit(f"    {declare(c_type, 'value')} = {value};")
         self.emit(f"    {text} = value;")
         self.emit("}")
+
+    def lend_static(self, place, kind, constant_):
+        """The address of a constant: what is lent is never written, so much is proved, and C needs no block of its own each time."""
+        text, t = self.place(place, written=True)
+        self.same(t, ADDRESS, "a constant that is lent")
+        u = read_type(kind)
+        width, values = parts(constant_, "ints", 2)
+        numbers = [number(value) for value in items(values)]
+        if u[0] != "array" or u[1] != ("int", width_of(width)) or u[2] != len(numbers):
+            raise Stop(f"{len(numbers)} numbers of {width} bits are lent as {self.types.c(u)}")
+        indent = self.indent + " " * 8
+        texts = [constant(u[1][1], value) for value in numbers]
+        made = f"{{{{\n{indent}{wrapped(texts, indent)}}}}}" if texts else "{{0}}"
+        self.emit("{")
+        self.emit(f"    static const {declare(self.types.c(u), 'value')} = {made};")
+        self.emit(f"    {text} = (unsigned char *)&value;")
+        self.emit("}")
+        self.name_unread(place)
 
     def repeat(self, text, t, x, count):
         value, u = self.operand(x)

@@ -179,6 +179,9 @@ class Body:
             return f"(assign {place(held[0])} {value(held[1])})"
         if word == "Switch":
             return self.switch(*held)
+        if word == "LendStatic" and form(held[2])[0] == "Ints":
+            to, kind, (_, numbers) = held[0], held[1], form(held[2])
+            return f"(lendStatic {place(to)} {of_type(kind)} (ints {numbers['width']} {chain('l', map(str, numbers['values']))}))"
         if word == "Call":
             return self.call(*held)
         raise unknown("statement", {word: held})

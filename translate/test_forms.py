@@ -373,8 +373,13 @@ def arrays():
             put(2, f"(aggregate {chain('l', [u(width, x) for x in elements])})"), put(3, f"(addrOf {place(2)})"),
             put(4, f"(op2 (mul unsigned) {copy(1)} {u(64, width // 8)})"), put(3, f"(op2 offset {copy(3)} {copy(4)})"),
             put(0, opd(copy(3, f"(deref {t})"))), "return")))
+        lent = f"(lendStatic {place(3)} (tyArray {t} (lenLit {len(elements)})) (ints {width} {chain('l', map(str, elements))}))"
+        functions.append(function(f"lent_{width}", 1, [t, U64, "tyPtr", "tyPtr", U64, "tyPtr"], seq(
+            lent, put(4, f"(op2 (mul unsigned) {copy(1)} {u(64, width // 8)})"), put(5, f"(op2 offset {copy(3)} {copy(4)})"),
+            f"(lendStatic {place(2)} (tyArray {t} (lenLit 0)) (ints {width} lnil))", put(0, opd(copy(5, f"(deref {t})"))), "return")))
         for i, x in enumerate(elements):
             check(f"constants_{width}", (i,), x)
+            check(f"lent_{width}", (i,), x)
 
 
 def slices():
@@ -483,6 +488,8 @@ def refused():
         program([function("one", 0, [U8], '(call (foreign "abs") lnil (place 0 lnil))')]): "direct",
         program([function("one", 0, [U8], seq(call("none", [], place(0)), "return"))]): "forms::none",
         program([function("one", 1, [U8, PAIR], "return", TYPES)]): "export", program([]) + ")": "too many", "program": "rlib_mir",
+        program([function("one", 0, [U8, "tyPtr"], f"(lendStatic {place(1)} (tyArray {U8} (lenLit 2)) (ints 8 (lcons 1 lnil)))")]): "1 numbers",
+        program([function("one", 0, [U8, "tyPtr"], f"(lendStatic {place(1)} {U8} (ints 8 (lcons 1 lnil)))")]): "are lent as uint8_t",
     }
     failed = 0
     for text, due in texts.items():

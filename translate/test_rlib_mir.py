@@ -81,8 +81,12 @@ class Forms(unittest.TestCase):
         self.assertEqual(Body([switch, "Skip", "Return"]).whole(), f"(switch (copy (place 1 lnil)) {arms.format('noDefault')})")
         switch["Switch"][2] = True
         self.assertEqual(Body([switch, "Skip", "Return", put]).whole(), f"(switch (copy (place 1 lnil)) {arms.format(f'(default {text})')})")
-        for body, why in ((["Seq", put], "ends within"), ([put, put], "goes on"), (["Unreachable"], "statement"), ([{"LendStatic": []}], "statement")):
+        for body, why in ((["Seq", put], "ends within"), ([put, put], "goes on"), (["Unreachable"], "statement"), ([{"LendStatic": [local(0), U8, {"Int": {"width": 8, "value": 1}}]}], "statement")):
             self.refused(why, Body(body).whole)
+
+    def test_what_is_lent(self):
+        lent = {"LendStatic": [local(1), {"Array": [U8, {"Lit": 2}]}, {"Ints": {"width": 8, "values": [7, 8]}}]}
+        self.assertEqual(Body([lent]).whole(), "(lendStatic (place 1 lnil) (tyArray (tyInt 8) (lenLit 2)) (ints 8 (lcons 7 (lcons 8 lnil))))")
 
     def test_calls(self):
         body = Body([call("a::f")])
