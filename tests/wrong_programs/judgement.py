@@ -3,10 +3,11 @@ What `rt check` said of an edited crate, and whether that is the refusal that th
 text that the checker printed, so that it can be tested with such texts.
 """
 import re
-from collections.abc import Callable
+from collections.abc import Mapping
 from dataclasses import dataclass
 
 from edits import Edit
+from follows import Declarations
 
 
 class Refuted(Exception):
@@ -32,7 +33,7 @@ def refusal(lines: list[str]) -> Refusal:
     at = re.search(r":([0-9]+):[0-9]+: ", head)
     file = head[: at.start()] if at else head
     name = re.sub(r"`.*", "", re.sub(r"^[^`]*`", "", head))
-    follows = re.search(r"(was|is) not admitted", text)
+    follows = re.search(r"(was|is) not admitted|(was|were) not checked: ", text)
     return Refusal(not follows, file.removeprefix("./"), re.sub(r".*::", "", name), text, int(at.group(1)) if at else 0)
 
 
@@ -74,13 +75,21 @@ def placed(place: str, errors: list[Refusal], first: Refusal) -> str:
     raise Refuted(f"refused, but not at {place}; the first error: {first.place}")
 
 
-def refused_field(wanted: str, refused: list[Refusal], line_of: Callable[[str, int], str]) -> str:
-    """A declaration was refused, and, if a field is named behind it, in the line `FIELD = ..`."""
+def refused_field(wanted: str, own: list[Refusal], declarations: Declarations) -> str:
+    """
+    A declaration was refused, and, if a field is named behind it, in the lines of `FIELD = ..`; or it, or the field, rests on what was.
+    """
     file, declaration, field = (wanted.split(maxsplit=2) + ["", "", ""])[:3]
-    for one in refused:
-        if one.place == f"{file} {declaration}":
-            if not field or re.match(rf" *{re.escape(field)} = ", line_of(file, one.line)):
-                return f"  with the field {field or declaration}" + ("" if one.own else ", which follows")
+    said = f"  with the field {field or declaration}"
+    lines = dict(declarations.field((file, declaration), field)) if field else {}
+    if any(one.place == f"{file} {declaration}" and (not field or one.line in lines) for one in own):
+        return said
+    refused = {(one.file, one.declaration) for one in own}
+    following = declarations.following(refused)
+    if not field and (file, declaration) in following:
+        return f"{said}, which follows"
+    if declarations.rest_on(file, "\n".join(lines.values())) & ((refused | following) - {(file, declaration)}):
+        return f"{said}, which follows"
     raise Refuted(f"  but {file} {declaration} {field} isn't refused")
 
 
@@ -94,10 +103,10 @@ def places(edit: Edit, own: list[Refusal]) -> list[str]:
     return said + ([] if first in edit.lines else [own[0].message])
 
 
-def judgement(edit: Edit, status: int, said: str, line_of: Callable[[str, int], str], only_places: bool = False) -> list[str]:
+def judgement(edit: Edit, status: int, said: str, files: Mapping[str, str], only_places: bool = False) -> list[str]:
     """
-    The lines to print of an edit that is refused as it must be, or Refuted with those up to what isn't so. `line_of(FILE, NUMBER)` is a
-    line of the crate without the edit.
+    The lines to print of an edit that is refused as it must be, or Refuted with those up to what isn't so. `files` has the texts of the
+    crate's .antt files without the edit, by their paths below the crate.
     """
     if status == 0:
         raise Refuted("NOT REFUSED")
@@ -118,7 +127,7 @@ def judgement(edit: Edit, status: int, said: str, line_of: Callable[[str, int], 
     told = [placed(first[0], telling[:1], telling[0]) if first else placed(anywhere[0], telling, telling[0])]
     try:
         for field in edit.values("field"):
-            told.append(refused_field(field, refused, line_of))
+            told.append(refused_field(field, own, Declarations(edit.crate, files)))
         for theorem in edit.values("theorem"):
             if not re.search(rf"::theorems::{theorem}: (not proved|no proof)\b", said):
                 raise Refuted(f"  but the theorem {theorem} is proved")

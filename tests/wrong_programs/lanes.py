@@ -155,11 +155,11 @@ class Tries:
         for file, text in before.items():
             file.write_bytes(text)
 
-        def line_of(file: str, number: int) -> str:
-            lines = (root / file).read_text(encoding="utf-8").split("\n") if (root / file).is_file() else []
-            return lines[number - 1] if 0 < number <= len(lines) else ""
-
-        return judgement(edit, status, said, line_of, self.only_places)
+        files = {}
+        for folder in ("specs", "proofs"):
+            for file in sorted((root / folder).rglob("*.antt")):
+                files[file.relative_to(root).as_posix()] = file.read_text(encoding="utf-8")
+        return judgement(edit, status, said, files, self.only_places)
 
     def tried(self, edit: Edit, folder: Path) -> None:
         try:

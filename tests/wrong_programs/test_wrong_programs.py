@@ -15,6 +15,7 @@ sys.dont_write_bytecode = True
 HERE = Path(__file__).resolve().parent
 sys.path.insert(0, str(HERE))
 from edits import CRATES, BadEdit, Edit, change, changed_files, misplaced, named_twice, wanted  # noqa: E402
+from follows import Declarations  # noqa: E402
 from judgement import Refuted, judgement, only_shape, refusals  # noqa: E402
 from lanes import Stop, Tries, asked  # noqa: E402
 
@@ -23,24 +24,49 @@ SAID = f"""checking door
 {ROOT}proofs/door/open/Answers.antt:12:5: error: `returns`: expected
     opened x
   but it is half x
-{ROOT}proofs/Above.antt:3:1: error: `all-open`: `returns` of proofs/door/open/Answers.antt was not admitted
+{ROOT}proofs/Above.antt:3:1: error: 3 declarations that depend on `half`, which was rejected, were not checked: all-open, shut and 1 more
+{ROOT}proofs/Half.antt:4:3: error: `half`: expected 1
 note: src/door.rt:7:9: it is not proved that what the function ensures holds when it returns (`returns-2`)
 fn door::theorems::opens: not proved
 logic=not-proved
 """
-LINES = {("proofs/Above.antt", 3): "  opens = from returns"}
+FILES = {
+    "proofs/Half.antt": "use Rattle.door.specs.Door.{door}\n\npub half : ℕ -- see below\nhalf = 2\n\npub whole : ℕ\nwhole = 1\n",
+    "proofs/Above.antt": """use Rattle.door.proofs.Half.{half as h, whole}
+use Rattle.other.proofs.Half.{half}
+use Rattle.door.proofs.Half as more
+
+pub all-open : Opened
+all-open = record {
+  opens = from h
+    and more;
+  shuts = from whole;
+}
+
+module _ (x : ℕ)
+    (y : ℕ) where
+  inner : ℕ
+  inner = g more.half.f
+
+module _ (z : ℕ) where
+  pub g : ℕ → ℕ
+  g a = half a
+
+  record Pair : Type 0 where
+    one : h ≡ h
+
+pub none : ℕ
+none = inner whole
+""",
+}
 
 
 def edit(*lines, crate="door", name="wrong"):
     return Edit(crate, Path(f"/edits/{name}.edit"), tuple(lines))
 
 
-def line_of(file, number):
-    return LINES.get((file, number), "")
-
-
 def judge(said, *lines, status=1, places=False):
-    return judgement(edit(*lines), status, said, line_of, places)
+    return judgement(edit(*lines), status, said, FILES, places)
 
 
 class Change(unittest.TestCase):
@@ -134,7 +160,8 @@ class Refusals(unittest.TestCase):
         found = [(one.own, one.place, one.line) for one in refusals(SAID)]
         expected = [
             (True, "proofs/door/open/Answers.antt returns", 12),
-            (False, "proofs/Above.antt all-open", 3),
+            (False, "proofs/Above.antt half", 3),
+            (True, "proofs/Half.antt half", 4),
             (True, "src/door.rt returns-2", 7),
         ]
         self.assertEqual(found, expected)
@@ -157,6 +184,18 @@ class Refusals(unittest.TestCase):
         self.assertFalse(only_shape("Invariant", "expected 1 but it is 2"))
 
 
+class Follows(unittest.TestCase):
+    def test_what_rests_on_what(self):
+        declarations = Declarations("door", FILES)
+        above, below = "proofs/Above.antt", "proofs/Half.antt"
+        self.assertEqual({name for file, name in declarations.blocks if file == above}, {"all-open", "inner", "g", "Pair", "none"})
+        self.assertEqual(declarations.following({(below, "half")}), {(above, name) for name in ("all-open", "inner", "Pair", "none")})
+        self.assertEqual(declarations.following({(below, "whole")}), {(above, "all-open"), (above, "none")})
+        self.assertEqual(declarations.following({(above, "none")}), set())
+        self.assertEqual([number for number, _ in declarations.field((above, "all-open"), "opens")], [7, 8])
+        self.assertEqual([number for number, _ in declarations.field((above, "all-open"), "shuts")], [9])
+
+
 class Judgement(unittest.TestCase):
     def refuted(self, why, said, *lines, status=1):
         with self.assertRaises(Refuted) as caught:
@@ -171,7 +210,7 @@ class Judgement(unittest.TestCase):
     def test_own_may_be_any_but_not_one_that_follows(self):
         self.assertEqual(judge(SAID, "own: src/door.rt returns-2"), ["refused at src/door.rt returns-2"])
         first = "proofs/door/open/Answers.antt returns"
-        self.refuted(f"refused, but not at proofs/Above.antt all-open; the first error: {first}", SAID, "own: proofs/Above.antt all-open")
+        self.refuted(f"refused, but not at proofs/Above.antt half; the first error: {first}", SAID, "own: proofs/Above.antt half")
 
     def test_neither_first_nor_own_or_both(self):
         why = "  but the edit has neither a line 'first:' nor a line 'own:'"
@@ -203,13 +242,18 @@ class Judgement(unittest.TestCase):
         follows = ["  with the field all-open, which follows"]
         self.assertEqual(judge(SAID, own, "field: proofs/Above.antt all-open"), told + follows)
         self.assertEqual(judge(SAID, own, "field: proofs/Above.antt all-open opens")[1], "  with the field opens, which follows")
+        self.assertEqual(judge(SAID, own, "field: proofs/Above.antt inner")[1], "  with the field inner, which follows")
+        self.assertEqual(judge(SAID, own, "field: proofs/Above.antt none")[1], "  with the field none, which follows")
         why = "refused at src/door.rt returns-2\n  but proofs/Above.antt all-open shuts isn't refused"
         self.refuted(why, SAID, own, "field: proofs/Above.antt all-open shuts")
-        self.refuted(why.replace("all-open shuts", "none "), SAID, own, "field: proofs/Above.antt none")
+        self.refuted(why.replace("all-open shuts", "g "), SAID, own, "field: proofs/Above.antt g")
+        self.refuted(why.replace("all-open shuts", "nowhere "), SAID, own, "field: proofs/Above.antt nowhere")
+        inside = f"{ROOT}proofs/Above.antt:8:5: error: `all-open`: no\nlogic=not-proved\n"
+        self.assertEqual(judge(inside, "own: proofs/Above.antt all-open", "field: proofs/Above.antt all-open opens")[1], "  with the field opens")
 
     def test_each_field_is_asked(self):
-        fields = ("field: src/door.rt returns-2", "field: proofs/Above.antt none")
-        why = "refused at src/door.rt returns-2\n  with the field returns-2\n  but proofs/Above.antt none  isn't refused"
+        fields = ("field: src/door.rt returns-2", "field: proofs/Above.antt g")
+        why = "refused at src/door.rt returns-2\n  with the field returns-2\n  but proofs/Above.antt g  isn't refused"
         self.refuted(why, SAID, "own: src/door.rt returns-2", *fields)
 
     def test_theorem(self):
@@ -224,8 +268,8 @@ class Judgement(unittest.TestCase):
         self.assertEqual(judge(SAID, first, places=True), [first])
         self.assertEqual(judge(SAID, "# none yet", places=True)[0], first)
         self.assertIn("opened x", judge(SAID, "# none yet", places=True)[1])
-        own = ["own: proofs/door/open/Answers.antt returns", "own: src/door.rt returns-2"]
-        self.assertEqual(judge(SAID, "theorem: opens", places=True)[:2], own)
+        own = ["own: proofs/door/open/Answers.antt returns", "own: proofs/Half.antt half", "own: src/door.rt returns-2"]
+        self.assertEqual(judge(SAID, "theorem: opens", places=True)[:3], own)
 
 
 RT = """#!/bin/sh
@@ -327,7 +371,7 @@ class Lanes(unittest.TestCase):
     def test_a_signal_ends_all(self):
         """The program itself, in its folder, is ended while an edit is tried: what it runs and its folders go too."""
         self.put("tests/wrong_programs/sampling/slow.edit", WRONG.replace("new: wrong", "new: slow"))
-        for name in ("run", "edits.py", "judgement.py", "lanes.py"):
+        for name in ("run", "edits.py", "judgement.py", "follows.py", "lanes.py"):
             self.put(f"tests/wrong_programs/{name}", (HERE / name).read_text(encoding="utf-8"))
         (self.top / "tmp").mkdir()
         temporary, noted = self.top / "tmp", self.top / "pid"
