@@ -2,6 +2,8 @@
 // refuses by number.
 //
 // No function that is seen outside asks anything of its caller.
+#![tactic(auto)]
+
 mod numbers;
 mod report;
 mod settings;
@@ -11,4 +13,4 @@ pub use numbers::{ReadDigest, digest, whole_within};
 pub use settings::{
     Asked, Figures, Reading, each_by_itself, no_figures, security_figures, settings_for, small_case,
 };
-pub use words::{is_word, path, say_argument};
+pub use words::{count, is_word, path, say_argument};

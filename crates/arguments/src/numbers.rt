@@ -1,42 +1,45 @@
 // Arguments as numbers.
 use crate::report::{say_not_within, say_wrong};
+use crate::words::argument;
 use sampling::U128;
+use std::rt::Env;
 use text::number::Number;
 use text::{double, hex, number};
 
 // A double, where an argument writes one.
-#[derive(Drop)]
+#[derive(Clone, Copy)]
 pub struct Double {
     pub known: bool,
     pub value: f64,
 }
 
 // A number of 128 bits, where an argument writes one.
-#[derive(Drop)]
+#[derive(Clone, Copy)]
 pub struct Wide {
     pub known: bool,
     pub value: U128,
 }
 
 // The bytes of a digest, where an argument writes one.
-#[derive(Drop)]
+#[derive(Clone, Copy)]
 pub struct ReadDigest {
     pub known: bool,
     pub bytes: [u8; 32],
 }
 
 // What argument i writes in decimal.
-fn decimal_at(i: usize) -> Number {
+fn decimal_at(rt: &impl Env, i: usize) -> Number {
     let mut word = [0u8; 32];
-    let n = os::arg(i, &mut word);
+    let n = argument(rt, i, &mut word);
     number::decimal(&word[..n])
 }
 
 // Argument i as the number that it writes in decimal, or a message.
-pub fn whole(i: usize, name: &[u8]) -> Number {
-    let read = decimal_at(i);
+pub fn whole(rt: &(impl Env + Print), i: usize, name: &[u8]) -> Number {
+    let read = decimal_at(rt, i);
     if !read.known {
         say_wrong(
+            rt,
             i,
             name,
             b"a whole number in decimal, up to 18446744073709551615",
@@ -46,12 +49,18 @@ pub fn whole(i: usize, name: &[u8]) -> Number {
 }
 
 // The same of a number from `least` to `most`, which the message names.
-pub fn whole_within(i: usize, name: &[u8], least: u64, most: u64) -> Number {
-    let read = decimal_at(i);
+pub fn whole_within(
+    rt: &(impl Env + Print),
+    i: usize,
+    name: &[u8],
+    least: u64,
+    most: u64,
+) -> Number {
+    let read = decimal_at(rt, i);
     if read.known && least <= read.value && read.value <= most {
         return read;
     }
-    say_not_within(i, name, least, most);
+    say_not_within(rt, i, name, least, most);
     number::unknown()
 }
 
@@ -77,25 +86,25 @@ fn wide_of(word: &[u8]) -> Wide {
 }
 
 // Argument i as the X whose digits it writes, or a message.
-pub fn threshold(i: usize, name: &[u8]) -> Wide {
+pub fn threshold(rt: &(impl Env + Print), i: usize, name: &[u8]) -> Wide {
     let mut word = [0u8; 32];
-    let n = os::arg(i, &mut word);
+    let n = argument(rt, i, &mut word);
     let read = wide_of(&word[..n]);
     if !read.known {
-        say_wrong(i, name, b"32 hexadecimal digits, small letters");
+        say_wrong(rt, i, name, b"32 hexadecimal digits, small letters");
     }
     read
 }
 
 // Argument i as the digest whose digits it writes, or a message.
-pub fn digest(i: usize, name: &[u8]) -> ReadDigest {
+pub fn digest(rt: &(impl Env + Print), i: usize, name: &[u8]) -> ReadDigest {
     let mut word = [0u8; 64];
-    let n = os::arg(i, &mut word);
+    let n = argument(rt, i, &mut word);
     let mut bytes = [0u8; 32];
     let read = hex::unhex(&word[..n], &mut bytes);
     let known = read.known && read.len == 32;
     if !known {
-        say_wrong(i, name, b"64 hexadecimal digits, small letters");
+        say_wrong(rt, i, name, b"64 hexadecimal digits, small letters");
     }
     ReadDigest { known, bytes }
 }
@@ -135,17 +144,18 @@ fn completeness_of(word: &[u8]) -> Double {
 }
 
 // What argument i writes as a completeness.
-fn completeness_at(i: usize) -> Double {
+fn completeness_at(rt: &impl Env, i: usize) -> Double {
     let mut word = [0u8; 32];
-    let n = os::arg(i, &mut word);
+    let n = argument(rt, i, &mut word);
     completeness_of(&word[..n])
 }
 
 // Argument i as a completeness, or a message.
-pub fn completeness(i: usize, name: &[u8]) -> Double {
-    let read = completeness_at(i);
+pub fn completeness(rt: &(impl Env + Print), i: usize, name: &[u8]) -> Double {
+    let read = completeness_at(rt, i);
     if !read.known {
         say_wrong(
+            rt,
             i,
             name,
             b"a whole number in decimal, or 0x and 16 hexadecimal digits",
@@ -163,12 +173,13 @@ fn is_taken(c: f64) -> bool {
 }
 
 // The same of one that the small case takes; the message names the limits.
-pub fn completeness_within(i: usize, name: &[u8]) -> Double {
-    let read = completeness_at(i);
+pub fn completeness_within(rt: &(impl Env + Print), i: usize, name: &[u8]) -> Double {
+    let read = completeness_at(rt, i);
     if read.known && is_taken(read.value) {
         return read;
     }
     say_wrong(
+        rt,
         i,
         name,
         b"a whole number from 0 to 65535, or 0x and 16 hexadecimal digits of a double from 0 to 65535",

@@ -3,10 +3,11 @@ use crate::numbers;
 use crate::numbers::Double;
 use centralized_telescope::{Params, Refusal, SmallCase, SmallSettings, SmallestSize};
 use outcomes::say_refused;
+use std::rt::Env;
 use text::number::Number;
 
 // How the settings stand among a program's arguments.
-#[derive(Drop)]
+#[derive(Clone, Copy)]
 pub struct Reading {
     // which argument is the first of them
     pub first: usize,
@@ -15,7 +16,7 @@ pub struct Reading {
 }
 
 // What the arguments ask for.
-#[derive(Drop)]
+#[derive(Clone, Copy)]
 pub enum Asked {
     Settings(Params),
     // said by a message
@@ -23,7 +24,7 @@ pub enum Asked {
 }
 
 // The security figures, where the arguments write them.
-#[derive(Drop)]
+#[derive(Clone, Copy)]
 pub struct Figures {
     pub known: bool,
     pub soundness: u64,
@@ -41,18 +42,25 @@ fn place(from: Reading, k: usize) -> usize {
 }
 
 // A whole number k behind the first, with its limits.
-fn whole(from: Reading, k: usize, name: &[u8], least: u64, most: u64) -> Number {
+fn whole(
+    rt: &(impl Env + Print),
+    from: Reading,
+    k: usize,
+    name: &[u8],
+    least: u64,
+    most: u64,
+) -> Number {
     if from.limited {
-        return numbers::whole_within(place(from, k), name, least, most);
+        return numbers::whole_within(rt, place(from, k), name, least, most);
     }
-    numbers::whole(place(from, k), name)
+    numbers::whole(rt, place(from, k), name)
 }
 
-fn completeness(from: Reading, k: usize) -> Double {
+fn completeness(rt: &(impl Env + Print), from: Reading, k: usize) -> Double {
     if from.limited {
-        return numbers::completeness_within(place(from, k), b"C");
+        return numbers::completeness_within(rt, place(from, k), b"C");
     }
-    numbers::completeness(place(from, k), b"C")
+    numbers::completeness(rt, place(from, k), b"C")
 }
 
 fn with_set_size(set_size: u64, s: SmallSettings) -> Params {
@@ -67,35 +75,35 @@ fn with_set_size(set_size: u64, s: SmallSettings) -> Params {
     }
 }
 
-fn refused(k: Refusal) -> Asked {
-    say_refused(k);
+fn refused(rt: &impl Print, k: Refusal) -> Asked {
+    say_refused(rt, k);
     Asked::Refused
 }
 
 // The small case's settings for proofs of u elements with completeness c, and a set size.
-fn of_small_case(set_size: u64, u: u64, c: f64) -> Asked {
+fn of_small_case(rt: &impl Print, set_size: u64, u: u64, c: f64) -> Asked {
     let answer = centralized_telescope::param_small_case(u, c);
     match answer {
         SmallCase::Settings(s) => Asked::Settings(with_set_size(set_size, s)),
-        SmallCase::Refused(k) => refused(k),
+        SmallCase::Refused(k) => refused(rt, k),
     }
 }
 
 // SET_SIZE U C: the small case's settings for proofs of U elements with completeness C.
-pub fn small_case(from: Reading) -> Asked {
-    let set_size = whole(from, 0, b"SET_SIZE", 1, 32768);
+pub fn small_case(rt: &(impl Env + Print), from: Reading) -> Asked {
+    let set_size = whole(rt, from, 0, b"SET_SIZE", 1, 32768);
     if !set_size.known {
         return Asked::Refused;
     }
-    let u = whole(from, 1, b"U", 1, 1024);
+    let u = whole(rt, from, 1, b"U", 1, 1024);
     if !u.known {
         return Asked::Refused;
     }
-    let c = completeness(from, 2);
+    let c = completeness(rt, from, 2);
     if !c.known {
         return Asked::Refused;
     }
-    of_small_case(set_size.value, u.value, c.value)
+    of_small_case(rt, set_size.value, u.value, c.value)
 }
 
 pub fn no_figures() -> Figures {
@@ -117,20 +125,20 @@ fn before(n: u64) -> u64 {
 }
 
 // S C N F: soundness, completeness, set size and the lower bound to be shown, which is below the set size.
-pub fn security_figures(from: Reading) -> Figures {
-    let soundness = whole(from, 0, b"S", 0, 256);
+pub fn security_figures(rt: &(impl Env + Print), from: Reading) -> Figures {
+    let soundness = whole(rt, from, 0, b"S", 0, 256);
     if !soundness.known {
         return no_figures();
     }
-    let completeness = whole(from, 1, b"C", 1, 1024);
+    let completeness = whole(rt, from, 1, b"C", 1, 1024);
     if !completeness.known {
         return no_figures();
     }
-    let set_size = whole(from, 2, b"N", 2, 32768);
+    let set_size = whole(rt, from, 2, b"N", 2, 32768);
     if !set_size.known {
         return no_figures();
     }
-    let lower_bound = whole(from, 3, b"F", 1, before(set_size.value));
+    let lower_bound = whole(rt, from, 3, b"F", 1, before(set_size.value));
     if !lower_bound.known {
         return no_figures();
     }
@@ -144,7 +152,7 @@ pub fn security_figures(from: Reading) -> Figures {
 }
 
 // The small case's settings for the smallest proof size that these figures allow.
-pub fn settings_for(f: Figures) -> Asked {
+pub fn settings_for(rt: &impl Print, f: Figures) -> Asked {
     let answer = centralized_telescope::proof_size(
         f.soundness,
         f.completeness,
@@ -153,35 +161,35 @@ pub fn settings_for(f: Figures) -> Asked {
     );
     match answer {
         SmallestSize::Size(u) => {
-            of_small_case(f.set_size, u, numbers::whole_double(f.completeness))
+            of_small_case(rt, f.set_size, u, numbers::whole_double(f.completeness))
         }
-        SmallestSize::Refused(k) => refused(k),
+        SmallestSize::Refused(k) => refused(rt, k),
     }
 }
 
 // SET_SIZE PROOF_SIZE MAX_RETRIES SEARCH_WIDTH DFS_BOUND X.
-pub fn each_by_itself(from: Reading) -> Asked {
-    let set_size = whole(from, 0, b"SET_SIZE", 1, 32768);
+pub fn each_by_itself(rt: &(impl Env + Print), from: Reading) -> Asked {
+    let set_size = whole(rt, from, 0, b"SET_SIZE", 1, 32768);
     if !set_size.known {
         return Asked::Refused;
     }
-    let proof_size = whole(from, 1, b"PROOF_SIZE", 0, 1024);
+    let proof_size = whole(rt, from, 1, b"PROOF_SIZE", 0, 1024);
     if !proof_size.known {
         return Asked::Refused;
     }
-    let max_retries = whole(from, 2, b"MAX_RETRIES", 0, 65535);
+    let max_retries = whole(rt, from, 2, b"MAX_RETRIES", 0, 65535);
     if !max_retries.known {
         return Asked::Refused;
     }
-    let search_width = whole(from, 3, b"SEARCH_WIDTH", 0, 0xffff_ffff);
+    let search_width = whole(rt, from, 3, b"SEARCH_WIDTH", 0, 0xffff_ffff);
     if !search_width.known {
         return Asked::Refused;
     }
-    let dfs_bound = whole(from, 4, b"DFS_BOUND", 0, 0x1_0000_0000_0000);
+    let dfs_bound = whole(rt, from, 4, b"DFS_BOUND", 0, 0x1_0000_0000_0000);
     if !dfs_bound.known {
         return Asked::Refused;
     }
-    let x = numbers::threshold(place(from, 5), b"X");
+    let x = numbers::threshold(rt, place(from, 5), b"X");
     if !x.known {
         return Asked::Refused;
     }

@@ -1,5 +1,5 @@
 -- The second list's places that are added, one place after the other; and the source that they make.
-use Rattle.std.proofs.Common.{◌≡◌, ℕ, ◌+◌, ◌-◌, ◌<◌, ◌≤◌, true, false, List, [], ◌∷◌, ◌++◌, map, length, get_or, take, set, sym, refl, ap, ◌∙◌, subst, ⊎_elim, eq-or-lt_of_le, add-one, arith, length-append, length-set, length-take-le, take_all, get_or-set_other, get_or-take, get_or-set_same, take-suc-set}
+use Rattle.std.proofs.Common.{◌≡◌, ℕ, ◌+◌, ◌<◌, ◌≤◌, true, false, List, [], ◌∷◌, ◌++◌, map, length, get_or, take, set, sym, refl, ap, ◌∙◌, subst, ⊎_elim, eq-or-lt_of_le, add-one, arith, length-append, length-set, length-take-le, take_all, get_or-set_other, get_or-take, get_or-set_same, take-suc-set}
 use mathlib.Core.List.{map-append}
 use lib.ListN.{length-map}
 use Rattle.centralized_telescope.specs.core.Lists.{some_of}

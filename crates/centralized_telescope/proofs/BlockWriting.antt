@@ -3,7 +3,6 @@ use Rattle.std.proofs.Common.{◌≡◌, ℕ, suc, ◌+◌, ◌-◌, ◌*◌, �
 use lib.Seq.{paste, paste-zero, take-paste, drop-paste}
 use Rattle.sampling.specs.core.Fips180.{sha256}
 use Rattle.sampling.specs.core.Hash.{hashed}
-use Rattle.sampling.specs.laws.CommonLaws.{copied}
 use Rattle.sampling.specs.laws.HashLaws.{length_sha256}
 use Rattle.centralized_telescope.specs.later.Blocks.{body_check, sealed, body_bytes, block_bytes, check_bytes}
 use Rattle.centralized_telescope.specs.laws.BlocksLaws.{length_check}
@@ -39,12 +38,9 @@ part_taken from n t = let e : from + n - from ≡ n = omega arith in rw e
 pub part_long : (from n : ℕ) (t : List ℕ) → from + n ≤ length t → length (part from n t) ≡ n
 part_long from n t h = simp (length-take, length-drop) (omega arith)
 
--- a copy of it over as many bytes
-pub part_copied : (from n : ℕ) (t d r : List ℕ) → from + n ≤ length t → length d ≡ n
-    → r ≡ take (length (part from n t)) (part from n t) ++ drop (length (part from n t)) d
-    → r ≡ take n (drop from t)
-part_copied from n t d r h l R =
-    R ∙ copied (part from n t) d (part_long from n t h ∙ sym l) ∙ part_taken from n t
+-- a copy of it
+pub part_copied : (from n : ℕ) (t r : List ℕ) → from + n ≤ length t → r ≡ part from n t → r ≡ take n (drop from t)
+part_copied from n t r h R = R ∙ part_taken from n t
 
 -- ---- the check of a body
 
@@ -55,11 +51,9 @@ module _ (body digest : List ℕ) (k : ℕ) (l : length body ≡ body_bytes) (e 
   pub digest_long : length digest ≡ 32
   digest_long = ap length digest_of_body ∙ length_sha256 body
 
-  pub check_is : (d r : List ℕ) → length d ≡ 8 → r ≡ take (length (take 8 digest)) (take 8 digest) ++ drop (length (take 8 digest)) d
-      → r ≡ body_check body
+  pub check_is : (r : List ℕ) → r ≡ take 8 digest → r ≡ body_check body
   unfolding body_check
-  check_is d r D R =
-      R ∙ copied (take 8 digest) d (simp length-take (omega (arith, digest_long))) ∙ ap (take 8) digest_of_body
+  check_is r R = R ∙ ap (take 8) digest_of_body
 
 -- ---- a block made at its place, in two parts
 

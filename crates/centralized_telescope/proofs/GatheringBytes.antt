@@ -1,5 +1,5 @@
 -- Bytes of elements, put one behind the other into a buffer.
-use Rattle.std.proofs.Common.{◌≡◌, ℕ, ◌+◌, ◌-◌, ◌*◌, ◌<◌, ◌≤◌, List, [], ◌++◌, length, take, drop, sym, refl, ap, ◌∙◌, append_assoc, append-nil, arith, length-append, take-append-drop, length-take, length-take-le, take_at, drop_at}
+use Rattle.std.proofs.Common.{◌≡◌, ℕ, ◌+◌, ◌-◌, ◌*◌, ◌<◌, ◌≤◌, List, [], ◌++◌, length, take, drop, sym, refl, ap, ◌∙◌, append_assoc, append-nil, arith, length-append, take-append-drop, length-take-le, take_at}
 use Rattle.centralized_telescope.specs.core.Lists.{over}
 use Rattle.centralized_telescope.specs.core.Elements.{Element, elements, list_check, index_of, Lent, max_data_bytes}
 use Rattle.centralized_telescope.specs.later.Words.{mark_of, number_of}

@@ -1,9 +1,9 @@
 -- What a party is answered, by the lines that it meets, and by what its try gives.
 use Rattle.std.proofs.Common.{◌≡◌, ℕ, ◌+◌, ◌*◌, ◌<◌, ◌≤◌, Bool, true, false, cond, not, eqb, List, [], ◌∷◌, ◌++◌, length, take, drop, sym, refl, ap, ◌∙◌, arith, take-append-drop, length-take, take_at, eq-eqb, ne_eqb, eqb-true, le-leb}
 use mathlib.Core.Option.{some, none}
-use borrow.Author.Tests.{eqb-false, lt-leb}
+use borrow.Author.Tests.{lt-leb}
 use Rattle.sampling.specs.core.FirstNumber.{line, first_number}
-use Rattle.sampling.specs.laws.FirstNumberLaws.{number_met, number_passed, second_met, two_passed, number_last, number_none}
+use Rattle.sampling.specs.laws.FirstNumberLaws.{number_met, second_met, two_passed, number_last, number_none}
 use Rattle.centralized_telescope.specs.declared.errors.Refusal.{Refusal}
 use Rattle.centralized_telescope.specs.declared.errors.Refusal.TheVariants as refusal
 use Rattle.centralized_telescope.specs.declared.params.Params.{Params}
@@ -22,7 +22,7 @@ use Rattle.centralized_telescope.specs.core.Prover.{Proved, answer_of, refused, 
 use Rattle.centralized_telescope.specs.later.Words.{same_numbers}
 use Rattle.centralized_telescope.specs.later.TwoProducts.{table_right, by_try, party_refusal, tried_alone}
 use Rattle.centralized_telescope.specs.inner.Seeing.{early_refusal}
-use Rattle.centralized_telescope.specs.inner.Source.{Source, meant}
+use Rattle.centralized_telescope.specs.inner.Source.{meant}
 use Rattle.centralized_telescope.specs.core.Lists.{over}
 use Rattle.centralized_telescope.specs.inner.Visit.{tried, written, Ready, TryEnds}
 use Rattle.centralized_telescope.specs.inner.Walk.{Ended, missing, counted, find}
@@ -30,7 +30,6 @@ use Rattle.centralized_telescope.specs.laws.BinsLaws.{length_table}
 use Rattle.centralized_telescope.specs.laws.DistinctLaws.{same_numbers_lem}
 use Rattle.centralized_telescope.specs.laws.RefusalsLaws.{refusal_number_lem}
 use Rattle.centralized_telescope.specs.laws.SourceLaws.{alone, one_readable, one_meant}
-use Rattle.centralized_telescope.specs.laws.TestLaws.{unsaid}
 use Rattle.centralized_telescope.specs.laws.TryLaws.{length_bin_list}
 use Rattle.centralized_telescope.proofs.ManyTries.{missing_try, found_try, count_is, finds_is}
 use Rattle.centralized_telescope.proofs.OneTry.{whole}

@@ -1,5 +1,5 @@
 -- What prepare and commit answer, by the lines that they meet.
-use Rattle.std.proofs.Common.{◌≡◌, ℕ, Bool, true, false, cond, not, eqb, List, [], ◌∷◌, length, replicate, sym, refl, ◌∙◌, eq-eqb, ne_eqb, eqb-true}
+use Rattle.std.proofs.Common.{◌≡◌, ℕ, Bool, true, false, cond, not, eqb, List, [], length, replicate, sym, refl, eq-eqb, ne_eqb, eqb-true}
 use Rattle.sampling.specs.core.FirstNumber.{line, first_number}
 use Rattle.sampling.specs.laws.FirstNumberLaws.{number_met, second_met, two_passed}
 use Rattle.centralized_telescope.specs.declared.errors.Refusal.{Refusal}

@@ -1,5 +1,5 @@
 -- Writing a proof out: the places and their data looked at from the front, and one element more written behind those that are.
-use Rattle.std.proofs.Common.{◌≡◌, ℕ, zero, suc, ◌+◌, ◌-◌, ◌<◌, ◌≤◌, true, false, ltb, List, [], ◌∷◌, ◌++◌, map, length, get_or, take, drop, set, sym, refl, ap, ◌∙◌, append_assoc, append-nil, add-one, arith, length-append, length-drop, drop_of_length-le, length-take-le, take_all, drop-cons, drop-drop, take_at, ltb-false, le-ltb, lt-ltb, eq-eqb, ne_eqb}
+use Rattle.std.proofs.Common.{◌≡◌, ℕ, zero, suc, ◌+◌, ◌<◌, ◌≤◌, true, false, ltb, List, [], ◌∷◌, ◌++◌, map, length, get_or, take, drop, set, sym, refl, ap, ◌∙◌, append_assoc, append-nil, add-one, arith, length-append, drop_of_length-le, length-take-le, drop-cons, drop-drop, take_at, ltb-false, le-ltb, lt-ltb, eq-eqb, ne_eqb}
 use mathlib.Core.List.{map-append}
 use lib.ListN.{length-map}
 use lib.Seq.{drop-append-add}
@@ -38,19 +38,9 @@ module _ (d n ps : List ℕ) (i : ℕ) where
 
 -- ---- a copy into the middle of a buffer
 
-pub copied : (used : ℕ) (own out r : List ℕ)
-    → r ≡ take (length own) own ++ drop (length own) (take (length out - used) (drop used out))
-    → take used out ++ (r ++ drop (length out - used) (drop used out)) ≡ take used out ++ (own ++ drop (used + length own) out)
-copied used own out r e =
-    let l : length (drop used out) ≤ length out - used = omega (arith, length-drop used out) in
-    rw (
-      e,
-      take_all (length out - used) (drop used out) l,
-      take_all (length own) own (omega arith),
-      drop_of_length-le (drop used out) {i = length out - used} l,
-      append-nil,
-      drop-drop (length own) used out,
-    )
+pub copied : (used : ℕ) (own out r : List ℕ) (n : ℕ) → n ≡ length own → r ≡ own
+    → take used out ++ (r ++ drop n (drop used out)) ≡ take used out ++ (own ++ drop (used + length own) out)
+copied used own out r n k e = rw (e, k, drop-drop (length own) used out)
 
 -- ---- buffers with room
 

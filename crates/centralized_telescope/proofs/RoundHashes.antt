@@ -1,7 +1,6 @@
 -- What the hashes of rounds are over: an element's index, its tail, and strings joined.
-use Rattle.std.proofs.Common.{◌≡◌, ℕ, ◌+◌, ◌^◌, ◌≤◌, Bool, List, [], ◌++◌, length, take, drop, ap, ◌∙◌, append-nil, arith, length-append, length-take, take_all, eq-eqb, ne_eqb}
+use Rattle.std.proofs.Common.{◌≡◌, ℕ, ◌+◌, ◌^◌, ◌≤◌, Bool, List, [], ◌++◌, length, take, ap, ◌∙◌, append-nil, arith, length-append, take_all, eq-eqb, ne_eqb}
 use mathlib.Core.Option.{Option}
-use Rattle.sampling.specs.laws.CommonLaws.{copied}
 use Rattle.sampling.specs.core.BigEndian.{bytes_of}
 use Rattle.sampling.specs.laws.BigEndianLaws.{length_bytes_of}
 use Rattle.sampling.specs.core.Fips180.{sha256}
@@ -47,11 +46,6 @@ unfolding bin_of
 bin_is_lem o d t n R e O D T = rw (← T, ← D) O
 
 -- ---- what is sampled
-
--- a copy of the first 16 bytes over the 16 that were there
-pub half_is : (h d : List ℕ) → length h ≡ 32 → length d ≡ 16
-    → take (length (take 16 h)) (take 16 h) ++ drop (length (take 16 h)) d ≡ take 16 h
-half_is h d H D = copied (take 16 h) d (simp length-take (omega arith))
 
 pub yes_is : (h d f : List ℕ) (x : U128) (r : Bool) → d ≡ sha256 (proof_label ++ (h ++ [])) → f ≡ take 16 d → r ≡ bernoulli f (value_of x)
     → r ≡ says_yes x h

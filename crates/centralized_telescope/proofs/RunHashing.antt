@@ -1,5 +1,5 @@
 -- A run's bytes, absorbed part by part.
-use Rattle.std.proofs.Common.{◌≡◌, ℕ, ◌≤◌, List, ◌++◌, length, take, sym, ap, ◌∙◌, append_assoc, arith, take_all}
+use Rattle.std.proofs.Common.{◌≡◌, ℕ, ◌≤◌, List, ◌++◌, length, take, ap, ◌∙◌, append_assoc, arith, take_all}
 use Rattle.sampling.specs.declared.sha256.Hasher.{Hasher}
 use Rattle.sampling.specs.later.Hasher.{new_hasher, absorbed}
 use Rattle.sampling.specs.laws.HasherLaws.{absorbed_twice}

@@ -20,7 +20,7 @@ use Rattle.centralized_telescope.specs.later.Words.{mark_of, number_of}
 use Rattle.centralized_telescope.specs.core.Verifier.{verdict}
 use Rattle.centralized_telescope.specs.core.Exports.{exported_verdict}
 use Rattle.centralized_telescope.specs.later.ProofList.{joined_data, marks_of, indexes_of, buffers_short, list_of}
-use Rattle.centralized_telescope.specs.later.Blocks.{block_count, blocks, bodies_of, damaged, block_bytes}
+use Rattle.centralized_telescope.specs.later.Blocks.{block_count, bodies_of, damaged, block_bytes}
 use Rattle.centralized_telescope.specs.later.Tickets.{content, ticket, ElementFits, ProofFits, IsTicket, blocks_in, retry_in, search_in}
 use Rattle.centralized_telescope.specs.later.Tickets.{proof_in, is_ticket, TicketWritten, ticket_write_refusal, ticket_written, TicketRead}
 use Rattle.centralized_telescope.specs.later.Tickets.{read_out, ticket_read_refusal, ticket_read}

@@ -24,7 +24,7 @@ fn check_of(body: &[u8]) -> [u8; CHECK_BYTES]
     let h = sampling::sha256::sha256(body, b"", b"", b"");
     let digest = h.digest;
     let mut out = [0u8; CHECK_BYTES];
-    bytes::copy(&digest[..CHECK_BYTES], &mut out);
+    out.copy_from_slice(&digest[..CHECK_BYTES]);
     out
 }
 
@@ -50,7 +50,7 @@ fn seal_one(out: &mut [u8], k: usize)
 {
     // a copy, since the block may lie over its body
     let mut body = [0u8; BODY_BYTES];
-    bytes::copy(&out[BODY_BYTES * k..BODY_BYTES * k + BODY_BYTES], &mut body);
+    body.copy_from_slice(&out[BODY_BYTES * k..BODY_BYTES * k + BODY_BYTES]);
     let check = check_of(&body);
     copy_at(&body, BLOCK_BYTES * k, out);
     copy_at(&check, BLOCK_BYTES * k + BODY_BYTES, out);

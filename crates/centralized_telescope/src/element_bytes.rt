@@ -14,7 +14,7 @@ use sampling::write_number;
 pub const MAX_HEAD_BYTES: usize = 13;
 
 // What stands before an element's data: the first `len` of the bytes.
-#[derive(Drop)]
+#[derive(Clone, Copy)]
 pub struct ElementHead {
     pub bytes: [u8; MAX_HEAD_BYTES],
     pub len: usize,

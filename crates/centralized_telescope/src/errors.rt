@@ -4,7 +4,7 @@ ghost use Rattle.std.specs.Prelude.{◌≡◌};
 ghost use Rattle.centralized_telescope.specs.core.Refusals.{refusal_number};
 
 // Why a call does no work.
-#[derive(Drop)]
+#[derive(Clone, Copy)]
 pub enum Refusal {
     // set_size is 0 or over its limit
     SetSize,

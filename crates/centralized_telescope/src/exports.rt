@@ -18,7 +18,7 @@ use crate::round::{RetryCounter, SearchCounter};
 use crate::types::{Index, ListCheck, is_data_long, is_end_wrong, list_answer, some_mark_over};
 
 // What the ends in bytes are found to be.
-#[derive(Drop)]
+#[derive(Clone, Copy)]
 pub struct EndsFound {
     // one falls or is too high
     pub wrong: bool,
@@ -177,8 +177,7 @@ fn verify_bytes(
 
 // 0: the proof is accepted; else the number of the first refusal that it meets. Ends take 4 bytes each and indexes 8, the highest
 // byte first. X is passed as its high word, then its low.
-#[unsafe(no_mangle)]
-pub extern "C" fn alba_verify(
+pub fn alba_verify(
     set_size: u64,
     proof_size: u64,
     max_retries: u64,

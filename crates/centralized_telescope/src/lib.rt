@@ -1,4 +1,5 @@
 // The centralized telescope over what `sampling` promises. What is named here is all that a user sees.
+#![tactic(auto)]
 
 mod bins;
 mod blocks;
@@ -27,6 +28,7 @@ mod ticket;
 mod types;
 
 pub use errors::{Refusal, refusal_number};
+pub use exports::alba_verify;
 pub use misc::{Distinctness, check_distinct};
 pub use params::{
     Checked, Params, SmallCase, SmallSettings, check_params, param_small_case, settings_of,

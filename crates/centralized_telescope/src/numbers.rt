@@ -43,5 +43,5 @@ pub fn copy_at(part: &[u8], at: usize, out: &mut [u8])
     ensures { out.new
         ≡ take at out.old ++ (part.now ++ drop (at + length part.now) out.old) }
 {
-    bytes::copy(part, &mut out[at..]);
+    out[at..at + part.len()].copy_from_slice(part);
 }

@@ -24,7 +24,7 @@ pub const MAX_DFS_BOUND: u64 = 0x1_0000_0000_0000;
 const MAX_COMPLETENESS: f64 = 65535.0;
 
 // What prover and verifier are told.
-#[derive(Drop)]
+#[derive(Clone, Copy)]
 pub struct Params {
     pub set_size: u64,
     pub proof_size: u64,
@@ -61,14 +61,14 @@ pub fn settings_of(
 }
 
 // What the check of the settings answers. Every X is lawful.
-#[derive(Drop)]
+#[derive(Clone, Copy)]
 pub enum Checked {
     Lawful,
     Refused(Refusal),
 }
 
 // The small case's settings: every one but set_size.
-#[derive(Drop)]
+#[derive(Clone, Copy)]
 pub struct SmallSettings {
     pub proof_size: u64,
     pub max_retries: u64,
@@ -78,7 +78,7 @@ pub struct SmallSettings {
 }
 
 // What the small case answers.
-#[derive(Drop)]
+#[derive(Clone, Copy)]
 pub enum SmallCase {
     Settings(SmallSettings),
     Refused(Refusal),

@@ -12,7 +12,7 @@ use crate::ticket::HEAD_BYTES;
 use crate::types::MAX_DATA_BYTES;
 
 // How much to reserve, and how long a run may get.
-#[derive(Drop)]
+#[derive(Clone, Copy)]
 pub struct Amounts {
     // numbers of the prover's places
     pub places: u64,
@@ -25,7 +25,7 @@ pub struct Amounts {
 }
 
 // What planning answers.
-#[derive(Drop)]
+#[derive(Clone, Copy)]
 pub enum Planned {
     Amounts(Amounts),
     Refused(Refusal),

@@ -74,7 +74,7 @@ fn stands_in(
 }
 
 // How many places are added, or that the pool has over 65,536 elements.
-#[derive(Drop)]
+#[derive(Clone, Copy)]
 enum Added {
     Places(usize),
     TooMany,
@@ -143,7 +143,7 @@ fn find_added(
 // ---- The pool's size
 
 // What the call for the pool's size answers.
-#[derive(Drop)]
+#[derive(Clone, Copy)]
 pub enum PoolSize {
     Of(usize),
     // a list or the pool is

@@ -20,7 +20,7 @@ use sampling::eight_bytes;
 use sampling::sha256::Hasher;
 
 // What `prepare` answers: 0 with the digest, or a refusal's number with zeros.
-#[derive(Drop)]
+#[derive(Clone, Copy)]
 pub struct Prepared {
     pub number: u32,
     pub digest: [u8; 32],
@@ -60,7 +60,7 @@ fn gather_room() -> [u8; ROOM]
 }
 
 // How many bytes were gathered, and the place of the first element that isn't among them.
-#[derive(Drop)]
+#[derive(Clone, Copy)]
 struct Gathered {
     used: usize,
     next: usize,

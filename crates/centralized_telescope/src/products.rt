@@ -19,21 +19,21 @@ use crate::telescope::check_run;
 const TABLE: usize = 3 * MAX_SET_SIZE as usize + 1;
 
 // What has been found out about the lent bin table: whether it is that of n bins. Nothing yet where n is 0.
-#[derive(Drop)]
+#[derive(Clone, Copy)]
 pub struct Seen {
     pub n: u64,
     pub right: bool,
 }
 
 // What a party is answered, and what is known of the table then.
-#[derive(Drop)]
+#[derive(Clone, Copy)]
 pub struct PartyAnswer {
     pub answer: ProofSearch,
     pub seen: Seen,
 }
 
 // What both parties are answered. The retry counter of a proof is the table's.
-#[derive(Drop)]
+#[derive(Clone, Copy)]
 pub struct TwoAnswers {
     pub first: ProofSearch,
     pub second: ProofSearch,

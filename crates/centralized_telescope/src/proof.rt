@@ -14,7 +14,7 @@ use crate::round::{
 use crate::types::{Index, data_of, index_of};
 
 // What the verifier answers.
-#[derive(Drop)]
+#[derive(Clone, Copy)]
 pub enum Verdict {
     Accepted,
     // the list's length isn't proof_size

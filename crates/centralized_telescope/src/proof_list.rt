@@ -1,8 +1,8 @@
 // A prover's proof as a list of its own, in the form in which lists are lent. The Rust clones the elements; here their places are
 // written out into lent buffers.
 ghost use Rattle.std.specs.Prelude.{◌≡◌, ◌≤◌, false, length, nat_lt};
-ghost use Rattle.centralized_telescope.specs.core.Elements.{end_wrong, list_check, lent_at_entry, max_elements};
-ghost use Rattle.centralized_telescope.specs.later.Words.{lent_at_exit};
+ghost use Rattle.centralized_telescope.specs.core.Elements.{end_wrong, list_check, lent_of, lent_at_entry, max_elements};
+ghost use Rattle.centralized_telescope.specs.later.Words.{buffers_at_entry, lent_at_exit};
 ghost use Rattle.centralized_telescope.specs.later.ProofList.{place_out, joined_data, chosen, list_over, buffers_short, proof_list};
 ghost use Rattle.centralized_telescope.specs.later.ProofList.{proof_list_by};
 ghost use Rattle.centralized_telescope.specs.inner.ListReading.{data_of, lent_now};
@@ -12,7 +12,7 @@ use crate::numbers::copy_at;
 use crate::types::{ListCheck, MAX_ELEMENTS, check_list, data_of, index_of};
 
 // What `write_proof` answers.
-#[derive(Drop)]
+#[derive(Clone, Copy)]
 pub enum Written {
     // with the number of data bytes written
     List(usize),
@@ -94,10 +94,10 @@ fn write_elements(
     requires { (list_check (lent_now «data» ends marks indexes) ≡ 0) × (length places.now ≤ max_elements)
         × (place_out (length ends.now) places.now ≡ false)
         × (buffers_short (length places.now) (length (joined_data (chosen places.now (lent_now «data» ends marks indexes))))
-        (lent_now out_data out_ends out_marks out_indexes) ≡ false) }
+        (lent_of out_data.old out_ends.old out_marks.old out_indexes.old) ≡ false) }
     ensures { proof_list_by result (lent_at_exit out_data out_ends out_marks out_indexes)
         ≡ list_over (chosen places.now (lent_at_entry «data» ends marks indexes))
-        (lent_at_entry out_data out_ends out_marks out_indexes) }
+        (buffers_at_entry out_data out_ends out_marks out_indexes) }
 {
     let mut used: usize = 0;
     let mut i = 0;
@@ -130,7 +130,7 @@ pub fn write_proof(
 ) -> Written
     ensures { proof_list_by result (lent_at_exit out_data out_ends out_marks out_indexes)
         ≡ proof_list places.now (lent_at_entry «data» ends marks indexes)
-        (lent_at_entry out_data out_ends out_marks out_indexes) }
+        (buffers_at_entry out_data out_ends out_marks out_indexes) }
 {
     match check_list(data, ends, marks, indexes) {
         ListCheck::Accepted => {}

@@ -13,22 +13,22 @@ use crate::types::{Index, index_bytes};
 use sampling::{Draw, U128, eight_bytes, sample_bernoulli, sample_uniform};
 
 // R, the try. A type of its own, so that neither counter can be handed over for the other.
-#[derive(Drop)]
+#[derive(Clone, Copy)]
 pub struct RetryCounter(pub u64);
 
 // S, the tree that is searched within a try.
-#[derive(Drop)]
+#[derive(Clone, Copy)]
 pub struct SearchCounter(pub u64);
 
 // A round's id or an element's bin. Nowhere: the round doesn't exist, the element is in no bin.
-#[derive(Drop)]
+#[derive(Clone, Copy)]
 pub enum Id {
     At(u64),
     Nowhere,
 }
 
 // A round: its hash, and the id that is drawn from it.
-#[derive(Drop)]
+#[derive(Clone, Copy)]
 pub struct Round {
     pub hash: [u8; 32],
     pub id: Id,
@@ -102,7 +102,7 @@ fn first_half(h: [u8; 32]) -> [u8; 16]
     ensures { result ≡ take 16 h }
 {
     let mut half = [0u8; 16];
-    bytes::copy(&h[..16], &mut half);
+    half.copy_from_slice(&h[..16]);
     half
 }
 

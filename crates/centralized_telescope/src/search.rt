@@ -17,14 +17,14 @@ use crate::round::{Id, RetryCounter, SearchCounter, next_hash, proof_hash, round
 const PATH: usize = MAX_PROOF_SIZE as usize;
 
 // How a walk ends, with the count of the steps so far.
-#[derive(Drop)]
+#[derive(Clone, Copy)]
 pub enum Outcome {
     Found(u64),
     Missing(u64),
 }
 
 // How a try ends: with the search counter of what it found, or without; and its count.
-#[derive(Drop)]
+#[derive(Clone, Copy)]
 pub enum Attempt {
     Found(SearchCounter, u64),
     Missing(u64),
@@ -267,7 +267,7 @@ pub fn prove_index<'a>(
 
 // What the prover answers: a proof's counters with the step count, its places being written; or one of the ends without a proof, with the
 // step count; or a refusal.
-#[derive(Drop)]
+#[derive(Clone, Copy)]
 pub enum ProofSearch {
     Found(RetryCounter, SearchCounter, u64),
     NotFoundInBounds(u64),

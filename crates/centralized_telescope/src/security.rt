@@ -17,7 +17,7 @@ const MAX_FIGURE: u64 = 1_024;
 const DIGITS: usize = 512;
 
 // What the search for a size answers.
-#[derive(Drop)]
+#[derive(Clone, Copy)]
 pub enum SmallestSize {
     Size(u64),
     Refused(Refusal),

@@ -1,7 +1,7 @@
 // A proof as a ticket: the number of blocks, R, S and the elements in the joined bodies of blocks, and back.
 ghost use Rattle.std.specs.Prelude.{◌≡◌, ◌+◌, ◌*◌, ◌/◌, ◌^◌, ◌<◌, ◌≤◌, true, false, ◌++◌, length, drop, nat_lt};
 ghost use Rattle.sampling.specs.core.BigEndian.{big_endian, bytes_of};
-ghost use Rattle.centralized_telescope.specs.later.Words.{lent_at_exit};
+ghost use Rattle.centralized_telescope.specs.later.Words.{buffers_at_entry, lent_at_exit};
 ghost use Rattle.centralized_telescope.specs.core.Lists.{some_of, over};
 ghost use Rattle.centralized_telescope.specs.core.Elements.{elements, list_check, lent_at_entry, max_elements};
 ghost use Rattle.centralized_telescope.specs.inner.ListReading.{lent_now};
@@ -27,7 +27,7 @@ use sampling::write_number;
 pub const HEAD_BYTES: usize = 24;
 
 // What `write_ticket` answers.
-#[derive(Drop)]
+#[derive(Clone, Copy)]
 pub enum TicketBlocks {
     // with the number of blocks
     Written(usize),
@@ -36,7 +36,7 @@ pub enum TicketBlocks {
 }
 
 // What `read_ticket` answers.
-#[derive(Drop)]
+#[derive(Clone, Copy)]
 pub enum TicketProof {
     // with R, S, the number of elements and that of data bytes
     Read(RetryCounter, SearchCounter, usize, usize),
@@ -123,7 +123,7 @@ pub fn write_ticket(
 // ---- Reading. An offset is one into the joined bodies.
 
 // What a ticket has of an element before its data: how many bytes that takes, and how many data bytes follow.
-#[derive(Drop)]
+#[derive(Clone, Copy)]
 pub struct HeadRead {
     pub mark: u8,
     pub index: u64,
@@ -132,21 +132,21 @@ pub struct HeadRead {
 }
 
 // An element at an offset, or bytes that can't be one.
-#[derive(Drop)]
+#[derive(Clone, Copy)]
 pub enum Head {
     Element(HeadRead),
     Outside,
 }
 
 // The layout of all elements: where they end and how many data bytes they have; or bytes that can't be so many elements.
-#[derive(Drop)]
+#[derive(Clone, Copy)]
 pub enum Layout {
     Elements(usize, usize),
     Outside,
 }
 
 // What whole blocks with their checks hold: so many elements with so many data bytes in all, or no proof.
-#[derive(Drop)]
+#[derive(Clone, Copy)]
 pub enum Found {
     Elements(usize, usize),
     NoTicket,
@@ -327,7 +327,7 @@ fn read_elements(
         × (data_size count (elements_part (bodies_of ticket.now)) ≤ length «data».old) × (count ≤ length ends.old)
         × (count ≤ length marks.old) × (count ≤ length indexes.old) }
     ensures { with_buffers 0 result (lent_at_exit «data» ends marks indexes)
-        ≡ list_over (elements_in count (elements_part (bodies_of ticket.now))) (lent_at_entry «data» ends marks indexes) }
+        ≡ list_over (elements_in count (elements_part (bodies_of ticket.now))) (buffers_at_entry «data» ends marks indexes) }
 {
     let mut at: usize = HEAD_BYTES;
     let mut used: usize = 0;
@@ -358,7 +358,7 @@ pub fn read_ticket(
     indexes: &mut [u64],
 ) -> TicketProof
     ensures { ticket_read_by result (lent_at_exit «data» ends marks indexes)
-        ≡ ticket_read «ticket».now (lent_at_entry «data» ends marks indexes) }
+        ≡ ticket_read «ticket».now (buffers_at_entry «data» ends marks indexes) }
 {
     if is_damaged(ticket) {
         return TicketProof::Refused(Refusal::DamagedTicket);

@@ -15,7 +15,7 @@ pub const MAX_DATA_BYTES: usize = 4096;
 pub const MAX_ELEMENTS: usize = 65536;
 
 // What the check of a lent list answers.
-#[derive(Drop)]
+#[derive(Clone, Copy)]
 pub enum ListCheck {
     Accepted,
     // Malformed: ends, marks and indexes of unequal lengths; a mark above 1; an end too low or too high. Or TooLarge
@@ -141,14 +141,14 @@ pub fn check_list(data: &[u8], ends: &[u32], marks: &[u8], indexes: &[u64]) -> L
 // the export, whose ends and indexes are bytes.
 
 // An element's index as it is lent: the element has one if the mark is 1.
-#[derive(Drop)]
+#[derive(Clone, Copy)]
 pub struct Index {
     pub mark: u8,
     pub number: u64,
 }
 
 // An element's index as it is hashed: the first `len` of the bytes, 8 of them or none.
-#[derive(Drop)]
+#[derive(Clone, Copy)]
 pub struct IndexBytes {
     pub bytes: [u8; 8],
     pub len: usize,

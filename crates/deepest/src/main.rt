@@ -1,5 +1,7 @@
 // Searches as deep as the settings admit, 1,024 elements, and verifies the proof. It runs under the system's ordinary stack, and that
 // it ends is what it shows: each element of a chain has a frame of its own while the search goes on.
+#![tactic(auto)]
+
 ghost use Rattle.std.specs.Prelude.{◌≡◌, ◌≤◌, length};
 
 use centralized_telescope::{
@@ -55,7 +57,7 @@ fn ends_of_bytes() -> [u32; 1024]
 }
 
 // The proof's list has the element 1,024 times.
-fn say_verdict(retry_counter: RetryCounter, search_counter: SearchCounter) {
+fn say_verdict(rt: &impl Print, retry_counter: RetryCounter, search_counter: SearchCounter) {
     let data = [b'a'; 1024];
     let ends = ends_of_bytes();
     let marks = [1u8; 1024];
@@ -71,30 +73,31 @@ fn say_verdict(retry_counter: RetryCounter, search_counter: SearchCounter) {
     );
     let number = verdict_number(verdict) as u64;
     if number == 0 {
-        say(b"the verifier accepts it\n");
+        say(rt, b"the verifier accepts it\n");
         return;
     }
-    say_outcome(b"THE VERIFIER REFUSES IT", number);
+    say_outcome(rt, b"THE VERIFIER REFUSES IT", number);
 }
 
 fn say_found(
+    rt: &impl Print,
     retry_counter: RetryCounter,
     search_counter: SearchCounter,
     count: u64,
     places: &[u32],
 ) {
-    say(b"found with R ");
-    say_number(retry_counter.0);
-    say(b", S ");
-    say_number(search_counter.0);
-    say(b" after ");
-    say_number(count);
-    say(b" steps\nplaces that are the first: ");
-    say_number(first_places(places) as u64);
-    say(b" of 1024\n");
+    say(rt, b"found with R ");
+    say_number(rt, retry_counter.0);
+    say(rt, b", S ");
+    say_number(rt, search_counter.0);
+    say(rt, b" after ");
+    say_number(rt, count);
+    say(rt, b" steps\nplaces that are the first: ");
+    say_number(rt, first_places(places) as u64);
+    say(rt, b" of 1024\n");
 }
 
-fn main() {
+fn main(rt: HostRuntime) {
     let data = [b'a'; 1];
     let ends = [1u32; 1];
     let marks = [1u8; 1];
@@ -112,9 +115,9 @@ fn main() {
     );
     match found {
         ProofSearch::Found(retry_counter, search_counter, count) => {
-            say_found(retry_counter, search_counter, count, &places);
-            say_verdict(retry_counter, search_counter);
+            say_found(&rt, retry_counter, search_counter, count, &places);
+            say_verdict(&rt, retry_counter, search_counter);
         }
-        _ => say_outcome(b"NOT FOUND", proof_search_number(found) as u64),
+        _ => say_outcome(&rt, b"NOT FOUND", proof_search_number(found) as u64),
     }
 }

@@ -1,14 +1,13 @@
 -- The exported calls by their tests.
 use mathlib.Core.Path.{◌≡◌, refl, ap, ◌∙◌}
 use mathlib.Core.Bool.{Bool}
-use mathlib.Core.List.{List, [], ◌∷◌, ◌++◌}
+use mathlib.Core.List.{List, [], ◌∷◌}
 use Prim.Native.Nat.{ℕ, zero, suc}
 use native.Mathlib.Omega.{arith}
 use borrow.Author.Tests.{eq-eqb, ne_eqb}
 use lib.Ieee.{Float}
-use lib.ListN.{length, take, drop, set, drop_of_length-le}
+use lib.ListN.{length, set, drop_of_length-le}
 use lib.Seq.{sets-eq}
-use Rattle.sampling.specs.laws.CommonLaws.{copied}
 use Rattle.sampling.specs.core.Hash.{hashed}
 use Rattle.centralized_telescope.specs.core.Elements.{Lent}
 use Rattle.centralized_telescope.specs.later.Distinct.{distinct}
@@ -20,11 +19,10 @@ pub refused : (m out : List ℕ) → (length out ≡ 32 → ⊥) → (8, out) �
 unfolding exported_hash
 refused m out h = rw (ne_eqb (length out) 32 h)
 
-pub served : (m out last digest : List ℕ) (k : ℕ) → length digest ≡ 32 → length out ≡ 32 → (k, digest) ≡ hashed m
-    → last ≡ take (length digest) digest ++ drop (length digest) out → (k, last) ≡ exported_hash m out
+pub served : (m out last digest : List ℕ) (k : ℕ) → length out ≡ 32 → (k, digest) ≡ hashed m → last ≡ digest → (k, last) ≡ exported_hash m out
 unfolding exported_hash
-served m out last digest k l h e p =
-    rw (eq-eqb (length out) 32 h) (ap (λ (b : List ℕ). (k, b)) (p ∙ copied digest out (omega arith)) ∙ e)
+served m out last digest k h e p =
+    rw (eq-eqb (length out) 32 h) (ap (λ (b : List ℕ). (k, b)) p ∙ e)
 
 -- ---- the small case
 

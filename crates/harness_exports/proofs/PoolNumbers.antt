@@ -2,10 +2,8 @@
 use mathlib.Core.Path.{◌≡◌, ap, ◌∙◌}
 use mathlib.Core.List.{List, ◌++◌}
 use Prim.Native.Nat.{ℕ, ◌≤◌, ◌<◌}
-use native.Mathlib.Omega.{arith}
 use borrow.Author.Tests.{lt-ltb, le-ltb}
-use lib.ListN.{length, take, drop}
-use lib.Seq.{take_all}
+use lib.ListN.{length, drop}
 use Rattle.centralized_telescope.specs.core.Elements.{Lent}
 use Rattle.centralized_telescope.specs.core.Lists.{over}
 use Rattle.centralized_telescope.specs.later.Pool.{pool_size, pool_size_by, pool_data}
@@ -27,9 +25,9 @@ module _ (first second : Lent) where
     unfolding exported_pool_data
     part_short l = rw (← o, lt-ltb (length part) (length own) l)
 
-    pub part_written : length own ≤ length part → (part' out' : List ℕ) → part' ≡ take (length own) own ++ drop (length own) part
-        → out' ≡ with_first (length own) out → (0, part', out') ≡ exported_pool_data first second place part out
+    pub part_written : length own ≤ length part → (last out' : List ℕ) → last ≡ own
+        → out' ≡ with_first (length own) out → (0, last ++ drop (length own) part, out') ≡ exported_pool_data first second place part out
     unfolding exported_pool_data
-    part_written l part' out' p q =
-        let w : part' ≡ over own part = p ∙ ap (λ (xs : List ℕ). xs ++ drop (length own) part) (take_all (length own) own (omega arith)) in
+    part_written l last out' p q =
+        let w : last ++ drop (length own) part ≡ over own part = ap (λ (xs : List ℕ). xs ++ drop (length own) part) p in
         rw (← o, le-ltb (length part) (length own) l, w, q)

@@ -1,8 +1,10 @@
 // Calls that the Rust harness alone makes, on numbers and byte slices. They are no part of what a loader links.
+#![tactic(auto)]
+
 ghost use Rattle.std.specs.Prelude.{◌≡◌, ◌++◌, length};
 ghost use Rattle.centralized_telescope.specs.later.Blocks.{bodies_of};
 ghost use Rattle.centralized_telescope.specs.core.Elements.{lent_at_entry};
-ghost use Rattle.centralized_telescope.specs.later.Words.{lent_at_exit};
+ghost use Rattle.centralized_telescope.specs.later.Words.{buffers_at_entry, lent_at_exit};
 ghost use Rattle.centralized_telescope.specs.core.Params.{settings_of};
 ghost use Rattle.centralized_telescope.specs.later.Tickets.{blocks_in};
 ghost use Rattle.harness_exports.specs.Exported.{exported_hash, six, exported_small_case, exported_distinct, without_proof, search_numbers};
@@ -30,7 +32,7 @@ pub extern "C" fn alba_sha256(a: &[u8], b: &[u8], c: &[u8], d: &[u8], out: &mut 
     }
     let hashed = sampling::sha256::sha256(a, b, c, d);
     let digest = hashed.digest;
-    bytes::copy(&digest, out);
+    out.copy_from_slice(&digest);
     hashed.number
 }
 
@@ -87,7 +89,7 @@ pub extern "C" fn alba_check_distinct(
 }
 
 // What the prover answers, in numbers.
-#[derive(Drop)]
+#[derive(Clone, Copy)]
 pub struct Numbers {
     pub number: u32,
     pub retry: u64,
@@ -217,7 +219,7 @@ pub extern "C" fn alba_prove_pool<'a>(
 }
 
 // What the writer of tickets answers, in numbers.
-#[derive(Drop)]
+#[derive(Clone, Copy)]
 pub struct BlocksNumbers {
     pub number: u32,
     pub blocks: u64,
@@ -277,7 +279,7 @@ pub extern "C" fn alba_write_ticket(
 }
 
 // What the reader of tickets answers, in numbers.
-#[derive(Drop)]
+#[derive(Clone, Copy)]
 pub struct ReadNumbers {
     pub number: u32,
     pub retry: u64,
@@ -331,7 +333,7 @@ pub extern "C" fn alba_read_ticket(
     out: &mut [u64],
 ) -> u32
     ensures { (result, lent_at_exit «data» ends marks indexes, out.new)
-        ≡ exported_read_ticket «ticket».now (lent_at_entry «data» ends marks indexes) out.old }
+        ≡ exported_read_ticket «ticket».now (buffers_at_entry «data» ends marks indexes) out.old }
 {
     let answer = centralized_telescope::read_ticket(ticket, data, ends, marks, indexes);
     let n = read_numbers(answer);
@@ -348,7 +350,7 @@ pub extern "C" fn alba_stated_blocks(ticket: &[u8]) -> u64
 }
 
 // What planning answers, in numbers.
-#[derive(Drop)]
+#[derive(Clone, Copy)]
 pub struct PlanNumbers {
     pub number: u32,
     pub amounts: Amounts,
@@ -417,7 +419,7 @@ pub extern "C" fn alba_plan(
 }
 
 // What the search for a proof size answers, in numbers.
-#[derive(Drop)]
+#[derive(Clone, Copy)]
 pub struct SizeNumbers {
     pub number: u32,
     pub size: u64,
@@ -519,7 +521,7 @@ pub extern "C" fn alba_pool_data<'a>(
     if part.len() < own.len() {
         return 42;
     }
-    bytes::copy(own, part);
+    part[..own.len()].copy_from_slice(own);
     put_first(own.len() as u64, out);
     0
 }
@@ -564,7 +566,7 @@ pub extern "C" fn alba_prepare(
         return answer.number;
     }
     let digest = answer.digest;
-    bytes::copy(&digest, out);
+    out.copy_from_slice(&digest);
     0
 }
 
@@ -596,7 +598,7 @@ pub extern "C" fn alba_commit(
         return 8;
     }
     let mut prepared = [0u8; 32];
-    bytes::copy(digest, &mut prepared);
+    prepared.copy_from_slice(digest);
     let p = settings_of(
         set_size,
         proof_size,

@@ -11,26 +11,43 @@
 // argument is read and nothing is refused. If an argument is wrong, one line says which argument it is and what its limits are. If no
 // proof size is enough for the figures, one line says that. No compiler takes either line for a header. With another number of arguments
 // it says how it is called.
+#![tactic(auto)]
+
 mod header;
 
 use arguments::{Asked, Reading, is_word};
+use std::rt::Env;
 use text::number::Number;
 use text::say::say;
 
-fn say_usage() {
-    say(b"usage: plan security S C N F LONGEST\n");
-    say(b"       plan case SET_SIZE U C LONGEST\n");
-    say(b"       plan settings SET_SIZE PROOF_SIZE MAX_RETRIES SEARCH_WIDTH DFS_BOUND X LONGEST\n");
+fn say_usage(rt: &impl Print) {
+    say(rt, b"usage: plan security S C N F LONGEST\n");
+    say(rt, b"       plan case SET_SIZE U C LONGEST\n");
     say(
+        rt,
+        b"       plan settings SET_SIZE PROOF_SIZE MAX_RETRIES SEARCH_WIDTH DFS_BOUND X LONGEST\n",
+    );
+    say(
+        rt,
         b"S, N, F  soundness, 0 to 256; set size, 2 to 32768; the lower bound to be shown, 1 to N - 1\n",
     );
-    say(b"U        proof size, 1 to 1024\n");
+    say(rt, b"U        proof size, 1 to 1024\n");
     say(
+        rt,
         b"C        completeness: with S 1 to 1024, with U 0 to 65535; there also 0x and 16 hexadecimal digits of a double\n",
     );
-    say(b"X        the threshold of 128 bits, in 32 hexadecimal digits\n");
-    say(b"LONGEST  the most data bytes that an element will have, 0 to 4096\n");
-    say(b"A C header is printed: the settings, and how much to reserve for a run\n");
+    say(
+        rt,
+        b"X        the threshold of 128 bits, in 32 hexadecimal digits\n",
+    );
+    say(
+        rt,
+        b"LONGEST  the most data bytes that an element will have, 0 to 4096\n",
+    );
+    say(
+        rt,
+        b"A C header is printed: the settings, and how much to reserve for a run\n",
+    );
 }
 
 // The settings follow the first word, each within its limits.
@@ -42,54 +59,54 @@ fn behind_word() -> Reading {
 }
 
 // The longest data, which is the last argument.
-fn longest_at(last: usize) -> Number {
-    arguments::whole_within(last, b"LONGEST", 0, 4096)
+fn longest_at(rt: &(impl Env + Print), last: usize) -> Number {
+    arguments::whole_within(rt, last, b"LONGEST", 0, 4096)
 }
 
 // The header for the settings asked for and for the longest data, which is argument `last`; or nothing but the message that says why not.
-fn answer(asked: Asked, last: usize) {
+fn answer(rt: &(impl Env + Print), asked: Asked, last: usize) {
     match asked {
         Asked::Refused => {}
         Asked::Settings(p) => {
-            let longest = longest_at(last);
+            let longest = longest_at(rt, last);
             if longest.known {
-                header::say_planned(p, arguments::no_figures(), longest.value, last);
+                header::say_planned(rt, p, arguments::no_figures(), longest.value, last);
             }
         }
     }
 }
 
 // The same for the security figures. A wrong argument is named before it is asked whether any proof size is enough.
-fn answer_security(last: usize) {
-    let figures = arguments::security_figures(behind_word());
+fn answer_security(rt: &(impl Env + Print), last: usize) {
+    let figures = arguments::security_figures(rt, behind_word());
     if !figures.known {
         return;
     }
-    let longest = longest_at(last);
+    let longest = longest_at(rt, last);
     if !longest.known {
         return;
     }
-    let asked = arguments::settings_for(figures);
+    let asked = arguments::settings_for(rt, figures);
     match asked {
         Asked::Refused => {}
-        Asked::Settings(p) => header::say_planned(p, figures, longest.value, last),
+        Asked::Settings(p) => header::say_planned(rt, p, figures, longest.value, last),
     }
 }
 
-fn main() {
+fn main(rt: HostRuntime) {
     // The program's own name is among them.
-    let words = os::arg_count();
-    if words == 7 && is_word(1, b"security") {
-        answer_security(6);
+    let words = arguments::count(&rt);
+    if words == 7 && is_word(&rt, 1, b"security") {
+        answer_security(&rt, 6);
         return;
     }
-    if words == 6 && is_word(1, b"case") {
-        answer(arguments::small_case(behind_word()), 5);
+    if words == 6 && is_word(&rt, 1, b"case") {
+        answer(&rt, arguments::small_case(&rt, behind_word()), 5);
         return;
     }
-    if words == 9 && is_word(1, b"settings") {
-        answer(arguments::each_by_itself(behind_word()), 8);
+    if words == 9 && is_word(&rt, 1, b"settings") {
+        answer(&rt, arguments::each_by_itself(&rt, behind_word()), 8);
         return;
     }
-    say_usage();
+    say_usage(&rt);
 }

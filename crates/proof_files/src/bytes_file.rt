@@ -1,34 +1,33 @@
 // A file as the bytes that it has.
 ghost use Rattle.std.specs.Prelude.{◌≤◌, length};
 
+use crate::opening;
 use crate::report::say_of_file;
+use std::fs::OpenFile;
+use std::io::Write;
+use std::rt::Files;
 use text::input;
 use text::input::Fetched;
 
 // A file's bytes over the first of what is lent. Where it can't be opened or read, a message says so.
-pub fn read_bytes(name: &[u8], out: &mut [u8]) -> Fetched
+pub fn read_bytes<R: Files + Print>(rt: &R, name: &[u8], out: &mut [u8]) -> Fetched
     ensures { result.len ≤ length out.new }
 {
-    let fd = os::open_read(name);
-    if fd < 0 {
-        say_of_file(name, b"can't be opened");
+    let Some(mut file) = opening::open_read(rt, name) else {
+        say_of_file(rt, name, b"can't be opened");
         return input::none_fetched();
-    }
-    let fetched = input::read_whole(fd, out);
+    };
+    let fetched = input::read_whole(&mut file, out);
     if !fetched.whole && !fetched.too_long {
-        say_of_file(name, b"can't be read to its end");
+        say_of_file(rt, name, b"can't be read to its end");
     }
-    libc::close(fd);
     fetched
 }
 
-// Whether the file could be made, as a new one, and written whole.
-pub fn is_bytes_written(name: &[u8], bytes: &[u8]) -> bool {
-    let fd = os::create(name);
-    if fd < 0 {
+// Whether the file could be made, as a new one, and written whole: what a close would say of it, the system is asked for first.
+pub fn is_bytes_written<R: Files>(rt: &R, name: &[u8], bytes: &[u8]) -> bool {
+    let Some(mut file) = opening::create(rt, name) else {
         return false;
-    }
-    let is_whole = io::write_all(fd, bytes);
-    let is_closed = libc::close(fd) == 0;
-    is_whole && is_closed
+    };
+    file.write_all(bytes).is_ok() && file.sync_all().is_ok()
 }

@@ -3,10 +3,11 @@ ghost use Rattle.std.specs.Prelude.{◌≡◌, ◌+◌, ◌<◌, length};
 ghost use Rattle.io.specs.Counts.{IsPrefixLen};
 ghost use Rattle.proof_files.specs.Lists.{Counted};
 
+use std::io::Write;
 use text::{hex, least, number, words};
 
 // What came of a line.
-#[derive(Drop)]
+#[derive(Clone, Copy)]
 pub enum Adding {
     Added,
     // not of that form
@@ -20,7 +21,7 @@ pub enum Adding {
 }
 
 // A list with one element more: how many elements and data bytes it has. Zeros where there came none.
-#[derive(Drop)]
+#[derive(Clone, Copy)]
 pub struct Added {
     pub came: Adding,
     pub elements: usize,
@@ -28,7 +29,7 @@ pub struct Added {
 }
 
 // An index as it is lent, where a text writes one or none.
-#[derive(Drop)]
+#[derive(Clone, Copy)]
 struct Index {
     pub known: bool,
     pub mark: u8,
@@ -238,11 +239,11 @@ fn start_at(ends: &[u32], place: usize) -> usize
     wide(ends[place - 1])
 }
 
-fn write_data(fd: i32, data: &[u8]) -> bool {
+fn write_data(out: &mut impl Write, data: &[u8]) -> bool {
     if data.len() == 0 {
-        return io::write_all(fd, b"-");
+        return out.write_all(b"-").is_ok();
     }
-    hex::write(fd, data)
+    hex::write(out, data)
 }
 
 // The index of the element at a place; none where the mark isn't 1, or where the list has no such place.
@@ -264,15 +265,16 @@ fn index_at(marks: &[u8], indexes: &[u64], place: usize) -> Index {
 }
 
 // A space and the index, where the mark is 1.
-fn write_index(fd: i32, marks: &[u8], indexes: &[u64], place: usize) -> bool {
+fn write_index(out: &mut impl Write, marks: &[u8], indexes: &[u64], place: usize) -> bool {
     let index = index_at(marks, indexes, place);
     if index.mark != 1 {
         return true;
     }
-    if !io::write_all(fd, b" ") {
+    if out.write_all(b" ").is_err() {
         return false;
     }
-    io::print_decimal(fd, index.number)
+    let number = index.number;
+    write!(out, "{number}").is_ok()
 }
 
 // Whether two places of a list have the same element: the same data and mark and, where the mark is 1, the same index.
@@ -292,7 +294,7 @@ pub fn are_same(
     if x.number != y.number {
         return false;
     }
-    check::same(data_at(data, ends, a), data_at(data, ends, b))
+    data_at(data, ends, a) == data_at(data, ends, b)
 }
 
 // What a byte makes of a key. Each step is kept below 32,749, a prime.
@@ -323,20 +325,20 @@ pub fn key_at(data: &[u8], ends: &[u32], marks: &[u8], indexes: &[u64], place: u
     (key % 32749 + index.number % 32749) % 32749
 }
 
-// Writes the element at a place of a list as a line, and answers as `io::write_all` does.
+// Writes the element at a place of a list as a line, and answers whether it was written.
 pub fn write_line(
-    fd: i32,
+    out: &mut impl Write,
     data: &[u8],
     ends: &[u32],
     marks: &[u8],
     indexes: &[u64],
     place: usize,
 ) -> bool {
-    if !write_data(fd, data_at(data, ends, place)) {
+    if !write_data(out, data_at(data, ends, place)) {
         return false;
     }
-    if !write_index(fd, marks, indexes, place) {
+    if !write_index(out, marks, indexes, place) {
         return false;
     }
-    io::write_all(fd, b"\n")
+    out.write_all(b"\n").is_ok()
 }

@@ -2,9 +2,11 @@
 ghost use Rattle.std.specs.Prelude.{◌≡◌, length};
 ghost use Rattle.proof_files.specs.Lists.{Within};
 
-use crate::elements;
 use crate::elements::Adding;
 use crate::report::{say_of_file, say_of_line};
+use crate::{elements, opening};
+use std::io::Read;
+use std::rt::Files;
 use text::lines;
 use text::lines::{Came, Line};
 
@@ -16,7 +18,7 @@ pub fn line_room() -> [u8; 16384]
 }
 
 // How far a file is read: the last line, and the list so far, the first elements and data bytes of what is lent.
-#[derive(Drop)]
+#[derive(Clone, Copy)]
 pub struct Loaded {
     pub whole: bool,
     pub failed: bool,
@@ -65,20 +67,21 @@ fn whole(list: Loaded) -> Loaded
 }
 
 // What is wrong where no line came.
-fn say_no_line(name: &[u8], number: u64, came: Came) {
+fn say_no_line(rt: &impl Print, name: &[u8], number: u64, came: Came) {
     match came {
-        Came::TooLong => say_of_line(name, number, b"longer than an element can be"),
-        _ => say_of_file(name, b"can't be read to its end"),
+        Came::TooLong => say_of_line(rt, name, number, b"longer than an element can be"),
+        _ => say_of_file(rt, name, b"can't be read to its end"),
     }
 }
 
 // What is wrong with a line.
-fn say_not_added(name: &[u8], number: u64, came: Adding) {
+fn say_not_added(rt: &impl Print, name: &[u8], number: u64, came: Adding) {
     match came {
-        Adding::TooLong => say_of_line(name, number, b"over 4096 data bytes in one element"),
-        Adding::TooMany => say_of_line(name, number, b"more than 65536 elements in all"),
-        Adding::TooMuch => say_of_line(name, number, b"more than 1048576 data bytes in all"),
+        Adding::TooLong => say_of_line(rt, name, number, b"over 4096 data bytes in one element"),
+        Adding::TooMany => say_of_line(rt, name, number, b"more than 65536 elements in all"),
+        Adding::TooMuch => say_of_line(rt, name, number, b"more than 1048576 data bytes in all"),
         _ => say_of_line(
+            rt,
             name,
             number,
             b"expected data in hexadecimal, small letters and two digits a byte, or -, and perhaps a space and an index",
@@ -88,6 +91,7 @@ fn say_not_added(name: &[u8], number: u64, came: Adding) {
 
 // The list with the element of a line.
 fn add_one(
+    rt: &impl Print,
     name: &[u8],
     line: Line,
     text: &[u8],
@@ -110,7 +114,7 @@ fn add_one(
             bytes: more.bytes,
         },
         _ => {
-            say_not_added(name, line.number, came);
+            say_not_added(rt, name, line.number, came);
             failed()
         }
     }
@@ -118,8 +122,9 @@ fn add_one(
 
 // One line more.
 fn read_one(
+    rt: &impl Print,
     name: &[u8],
-    fd: i32,
+    file: &mut impl Read,
     buf: &mut [u8],
     list: Loaded,
     data: &mut [u8],
@@ -131,10 +136,11 @@ fn read_one(
     ensures { Within result.elements result.bytes «data».new ends.new marks.new indexes.new }
 {
     let last = list.line;
-    let line = lines::next(fd, buf, last);
+    let line = lines::next(file, buf, last);
     let came = line.came;
     match came {
         Came::Line => add_one(
+            rt,
             name,
             line,
             lines::text_of(buf, line),
@@ -146,7 +152,7 @@ fn read_one(
         ),
         Came::End => whole(list),
         _ => {
-            say_no_line(name, line.number, came);
+            say_no_line(rt, name, line.number, came);
             failed()
         }
     }
@@ -155,8 +161,9 @@ fn read_one(
 // Line by line, from the one after `last`, to the file's end or to a line that is refused. Nothing says that a file ends, so the turns
 // count down, from a number that no run uses up.
 pub fn read_open(
+    rt: &impl Print,
     name: &[u8],
-    fd: i32,
+    file: &mut impl Read,
     buf: &mut [u8],
     last: Line,
     data: &mut [u8],
@@ -169,14 +176,15 @@ pub fn read_open(
     let mut list = none_after(last);
     let mut turns = u64::MAX;
     while turns > 0 && !list.whole && !list.failed {
-        list = read_one(name, fd, buf, list, data, ends, marks, indexes);
+        list = read_one(rt, name, file, buf, list, data, ends, marks, indexes);
         turns -= 1;
     }
     list
 }
 
 // The file's elements into a lent list. Where it isn't read whole, a message says why.
-pub fn read_elements(
+pub fn read_elements<R: Files + Print>(
+    rt: &R,
     name: &[u8],
     data: &mut [u8],
     ends: &mut [u32],
@@ -185,22 +193,20 @@ pub fn read_elements(
 ) -> Loaded
     ensures { Within result.elements result.bytes «data».new ends.new marks.new indexes.new }
 {
-    let fd = os::open_read(name);
-    if fd < 0 {
-        say_of_file(name, b"can't be opened");
+    let Some(mut file) = opening::open_read(rt, name) else {
+        say_of_file(rt, name, b"can't be opened");
         return failed();
-    }
+    };
     let mut buf = line_room();
-    let list = read_open(
+    read_open(
+        rt,
         name,
-        fd,
+        &mut file,
         &mut buf,
         lines::none_yet(),
         data,
         ends,
         marks,
         indexes,
-    );
-    libc::close(fd);
-    list
+    )
 }

@@ -4,49 +4,43 @@ ghost use Rattle.proof_files.specs.Lists.{Within};
 
 use crate::elements_file::{Loaded, line_room};
 use crate::report::{say_of_file, say_of_line};
-use crate::{elements, elements_file};
+use crate::{elements, elements_file, opening};
+use std::fs::OpenFile;
+use std::io::{Read, Write};
+use std::rt::Files;
 use text::lines::{Came, Line};
 use text::{lines, number, words};
 
 // R and S, as the first line has them.
-#[derive(Drop)]
+#[derive(Clone, Copy)]
 pub struct CountersLine {
     pub retry: u64,
     pub search: u64,
 }
 
 // Whether there is a file of this name.
-pub fn is_there(name: &[u8]) -> bool {
-    let fd = os::open_read(name);
-    if fd < 0 {
-        return false;
-    }
-    libc::close(fd);
-    true
+pub fn is_there(rt: &impl Files, name: &[u8]) -> bool {
+    opening::open_read(rt, name).is_some()
 }
 
 // ---- Writing
 
-fn write_counters(fd: i32, counters: CountersLine) -> bool {
-    if !io::write_all(fd, b"proof ") {
-        return false;
-    }
-    if !io::print_decimal(fd, counters.retry) {
-        return false;
-    }
-    if !io::write_all(fd, b" ") {
-        return false;
-    }
-    if !io::print_decimal(fd, counters.search) {
-        return false;
-    }
-    io::write_all(fd, b"\n")
+fn write_counters(out: &mut impl Write, counters: CountersLine) -> bool {
+    let retry = counters.retry;
+    let search = counters.search;
+    write!(out, "proof {retry} {search}\n").is_ok()
 }
 
-fn write_elements(fd: i32, data: &[u8], ends: &[u32], marks: &[u8], indexes: &[u64]) -> bool {
+fn write_elements(
+    out: &mut impl Write,
+    data: &[u8],
+    ends: &[u32],
+    marks: &[u8],
+    indexes: &[u64],
+) -> bool {
     let mut i = 0;
     while i < ends.len() {
-        if !elements::write_line(fd, data, ends, marks, indexes, i) {
+        if !elements::write_line(out, data, ends, marks, indexes, i) {
             return false;
         }
         i += 1;
@@ -54,8 +48,9 @@ fn write_elements(fd: i32, data: &[u8], ends: &[u32], marks: &[u8], indexes: &[u
     true
 }
 
-// Whether the file could be made, as a new one, and written whole.
-pub fn is_proof_written(
+// Whether the file could be made, as a new one, and written whole: what a close would say of it, the system is asked for first.
+pub fn is_proof_written<R: Files>(
+    rt: &R,
     name: &[u8],
     counters: CountersLine,
     data: &[u8],
@@ -63,26 +58,25 @@ pub fn is_proof_written(
     marks: &[u8],
     indexes: &[u64],
 ) -> bool {
-    let fd = os::create(name);
-    if fd < 0 {
+    let Some(mut file) = opening::create(rt, name) else {
         return false;
-    }
-    let is_whole = write_counters(fd, counters) && write_elements(fd, data, ends, marks, indexes);
-    let is_closed = libc::close(fd) == 0;
-    is_whole && is_closed
+    };
+    write_counters(&mut file, counters)
+        && write_elements(&mut file, data, ends, marks, indexes)
+        && file.sync_all().is_ok()
 }
 
 // ---- Reading
 
 // R and S, where a line has them.
-#[derive(Drop)]
+#[derive(Clone, Copy)]
 struct Counted {
     known: bool,
     counters: CountersLine,
 }
 
 // R, S and the list, the first elements and data bytes of what is lent; zeros where the file isn't read whole.
-#[derive(Drop)]
+#[derive(Clone, Copy)]
 pub struct LoadedProof {
     pub whole: bool,
     pub counters: CountersLine,
@@ -127,18 +121,19 @@ fn counters_of(line: &[u8]) -> Counted {
 }
 
 // The counters of the first line, or a message.
-fn first_counters(name: &[u8], buf: &[u8], line: Line) -> Counted {
+fn first_counters(rt: &impl Print, name: &[u8], buf: &[u8], line: Line) -> Counted {
     let came = line.came;
     let read = match came {
         Came::Line => counters_of(lines::text_of(buf, line)),
         Came::Unreadable => {
-            say_of_file(name, b"can't be read to its end");
+            say_of_file(rt, name, b"can't be read to its end");
             return none_known();
         }
         _ => none_known(),
     };
     if !read.known {
         say_of_line(
+            rt,
             name,
             1,
             b"expected proof R S: R and S in decimal, one space before each",
@@ -160,8 +155,9 @@ fn proof_of(counters: CountersLine, list: Loaded) -> LoadedProof
 
 // An open file, line by line.
 fn read_open(
+    rt: &impl Print,
     name: &[u8],
-    fd: i32,
+    file: &mut impl Read,
     data: &mut [u8],
     ends: &mut [u32],
     marks: &mut [u8],
@@ -170,18 +166,21 @@ fn read_open(
     ensures { Within result.elements result.bytes «data».new ends.new marks.new indexes.new }
 {
     let mut buf = line_room();
-    let first = lines::next(fd, &mut buf, lines::none_yet());
-    let read = first_counters(name, &buf, first);
+    let first = lines::next(file, &mut buf, lines::none_yet());
+    let read = first_counters(rt, name, &buf, first);
     let counters = read.counters;
     if !read.known {
         return proof_of(counters, elements_file::failed());
     }
-    let list = elements_file::read_open(name, fd, &mut buf, first, data, ends, marks, indexes);
+    let list = elements_file::read_open(
+        rt, name, file, &mut buf, first, data, ends, marks, indexes,
+    );
     proof_of(counters, list)
 }
 
 // The file's R, S and elements, these into a lent list. Where it isn't read whole, a message says why.
-pub fn read_proof(
+pub fn read_proof<R: Files + Print>(
+    rt: &R,
     name: &[u8],
     data: &mut [u8],
     ends: &mut [u32],
@@ -190,9 +189,8 @@ pub fn read_proof(
 ) -> LoadedProof
     ensures { Within result.elements result.bytes «data».new ends.new marks.new indexes.new }
 {
-    let fd = os::open_read(name);
-    if fd < 0 {
-        say_of_file(name, b"can't be opened");
+    let Some(mut file) = opening::open_read(rt, name) else {
+        say_of_file(rt, name, b"can't be opened");
         return proof_of(
             CountersLine {
                 retry: 0,
@@ -200,8 +198,6 @@ pub fn read_proof(
             },
             elements_file::failed(),
         );
-    }
-    let proof = read_open(name, fd, data, ends, marks, indexes);
-    libc::close(fd);
-    proof
+    };
+    read_open(rt, name, &mut file, data, ends, marks, indexes)
 }

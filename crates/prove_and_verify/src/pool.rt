@@ -3,30 +3,36 @@ use crate::write_and_verify::Counters;
 use crate::{both_files, repeats, search, write_and_verify};
 use centralized_telescope::{Params, PoolSize, ProofSearch};
 use proof_files::{Loaded, first_bytes, first_indexes, first_numbers};
+use std::rt::Files;
 use text::least;
 use text::say::{say, say_figure};
 
-fn say_read(name: &[u8], n: usize) {
-    say(name);
-    say_figure(b": elements read ", n as u64);
+fn say_read(rt: &impl Print, name: &[u8], n: usize) {
+    say(rt, name);
+    say_figure(rt, b": elements read ", n as u64);
 }
 
 // What the second file adds to so many elements of the first.
-fn say_added(size: usize, first: usize) {
+fn say_added(rt: &impl Print, size: usize, first: usize) {
     if first <= size {
-        say_figure(b", added ", (size - first) as u64);
+        say_figure(rt, b", added ", (size - first) as u64);
     }
-    say(b"\n");
+    say(rt, b"\n");
 }
 
-fn say_pool(p: Params, size: usize) {
-    say_figure(b"pool: elements ", size as u64);
-    say_figure(b", kept for the search ", search::kept(size, p.set_size));
-    say(b"\n");
+fn say_pool(rt: &impl Print, p: Params, size: usize) {
+    say_figure(rt, b"pool: elements ", size as u64);
+    say_figure(
+        rt,
+        b", kept for the search ",
+        search::kept(size, p.set_size),
+    );
+    say(rt, b"\n");
 }
 
 // Says what was read of each file, whether two of its elements are the same, and what the pool has.
 fn say_task(
+    rt: &impl Print,
     p: Params,
     elements: &[u8],
     data: &[u8],
@@ -39,22 +45,22 @@ fn say_task(
     marks2: &[u8],
     indexes2: &[u64],
 ) {
-    search::say_settings(p);
-    say_read(elements, ends.len());
-    say(b"\n");
-    repeats::say_repeats(elements, data, ends, marks, indexes);
-    say_read(second, ends2.len());
+    search::say_settings(rt, p);
+    say_read(rt, elements, ends.len());
+    say(rt, b"\n");
+    repeats::say_repeats(rt, elements, data, ends, marks, indexes);
+    say_read(rt, second, ends2.len());
     let answer = centralized_telescope::pool_size(
         data, ends, marks, indexes, data2, ends2, marks2, indexes2,
     );
     match answer {
         PoolSize::Of(size) => {
-            say_added(size, ends.len());
-            repeats::say_repeats(second, data2, ends2, marks2, indexes2);
-            say_pool(p, size);
+            say_added(rt, size, ends.len());
+            repeats::say_repeats(rt, second, data2, ends2, marks2, indexes2);
+            say_pool(rt, p, size);
         }
         // The prover refuses it too, and says so.
-        PoolSize::Refused(_) => say(b"\n"),
+        PoolSize::Refused(_) => say(rt, b"\n"),
     }
 }
 
@@ -78,7 +84,7 @@ fn prove<'a>(
 }
 
 // How many elements and data bytes a list has.
-#[derive(Drop)]
+#[derive(Clone, Copy)]
 struct Sizes {
     pub elements: usize,
     pub bytes: usize,
@@ -86,6 +92,7 @@ struct Sizes {
 
 // Searches over two lists in one room, the second right behind the first. Before that it says what the task is.
 fn search_both(
+    rt: &impl Print,
     p: Params,
     elements: &[u8],
     second: &[u8],
@@ -115,7 +122,7 @@ fn search_both(
         other.elements,
     );
     say_task(
-        p, elements, data1, ends1, marks1, indexes1, second, data2, ends2, marks2, indexes2,
+        rt, p, elements, data1, ends1, marks1, indexes1, second, data2, ends2, marks2, indexes2,
     );
     prove(
         p, data1, ends1, marks1, indexes1, data2, ends2, marks2, indexes2, places,
@@ -124,6 +131,7 @@ fn search_both(
 
 // The proof of places of the pool, out of the room of both lists.
 fn finish(
+    rt: &(impl Files + Print),
     p: Params,
     proof: &[u8],
     counters: Counters,
@@ -150,6 +158,7 @@ fn finish(
     );
     let chain = first_numbers(places, p.proof_size as usize);
     write_and_verify::run(
+        rt,
         p,
         proof,
         counters,
@@ -163,6 +172,7 @@ fn finish(
 
 // The file's elements into the room behind a list.
 fn read_behind(
+    rt: &(impl Files + Print),
     name: &[u8],
     data: &mut [u8],
     ends: &mut [u32],
@@ -175,6 +185,7 @@ fn read_behind(
     let in_marks = least(one.elements, marks.len());
     let in_indexes = least(one.elements, indexes.len());
     proof_files::read_elements(
+        rt,
         name,
         &mut data[bytes..],
         &mut ends[in_ends..],
@@ -184,15 +195,22 @@ fn read_behind(
 }
 
 // Reads both files into one room, searches over the pool, and writes the proof's file.
-pub fn run(p: Params, elements: &[u8], second: &[u8], proof: &[u8]) {
-    if search::is_taken(proof) {
+pub fn run(rt: &(impl Files + Print), p: Params, elements: &[u8], second: &[u8], proof: &[u8]) {
+    if search::is_taken(rt, proof) {
         return;
     }
     let mut data = proof_files::data_room();
     let mut ends = proof_files::ends_room();
     let mut marks = proof_files::marks_room();
     let mut indexes = proof_files::indexes_room();
-    let list = proof_files::read_elements(elements, &mut data, &mut ends, &mut marks, &mut indexes);
+    let list = proof_files::read_elements(
+        rt,
+        elements,
+        &mut data,
+        &mut ends,
+        &mut marks,
+        &mut indexes,
+    );
     if !list.whole {
         return;
     }
@@ -200,7 +218,15 @@ pub fn run(p: Params, elements: &[u8], second: &[u8], proof: &[u8]) {
         elements: list.elements,
         bytes: list.bytes,
     };
-    let more = read_behind(second, &mut data, &mut ends, &mut marks, &mut indexes, one);
+    let more = read_behind(
+        rt,
+        second,
+        &mut data,
+        &mut ends,
+        &mut marks,
+        &mut indexes,
+        one,
+    );
     if !more.whole {
         return;
     }
@@ -210,6 +236,7 @@ pub fn run(p: Params, elements: &[u8], second: &[u8], proof: &[u8]) {
     };
     let mut places = [0u32; 1024];
     let found = search_both(
+        rt,
         p,
         elements,
         second,
@@ -225,11 +252,13 @@ pub fn run(p: Params, elements: &[u8], second: &[u8], proof: &[u8]) {
         ProofSearch::Found(retry, search, count) => {
             let counters = Counters { retry, search };
             search::say_found(
+                rt,
                 counters,
                 count,
                 first_numbers(&places, p.proof_size as usize),
             );
             finish(
+                rt,
                 p,
                 proof,
                 counters,
@@ -242,6 +271,6 @@ pub fn run(p: Params, elements: &[u8], second: &[u8], proof: &[u8]) {
                 other,
             );
         }
-        _ => search::say_without_proof(found),
+        _ => search::say_without_proof(rt, found),
     }
 }

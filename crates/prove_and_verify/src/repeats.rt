@@ -47,22 +47,32 @@ fn first_line_of(data: &[u8], ends: &[u32], marks: &[u8], indexes: &[u64], k: us
     k
 }
 
-fn say_lines(name: &[u8], earlier: usize, later: usize) {
-    say(name);
-    say_figure(b", lines ", earlier as u64);
-    say_figure(b" and ", later as u64);
-    say(b": the same element; a list with repeats proves less than it seems to\n");
+fn say_lines(rt: &impl Print, name: &[u8], earlier: usize, later: usize) {
+    say(rt, name);
+    say_figure(rt, b", lines ", earlier as u64);
+    say_figure(rt, b" and ", later as u64);
+    say(
+        rt,
+        b": the same element; a list with repeats proves less than it seems to\n",
+    );
 }
 
 // Says whether two elements of the file are the same: which line is the first whose element stands on an earlier one, and on which.
-pub fn say_repeats(name: &[u8], data: &[u8], ends: &[u32], marks: &[u8], indexes: &[u64]) {
+pub fn say_repeats(
+    rt: &impl Print,
+    name: &[u8],
+    data: &[u8],
+    ends: &[u32],
+    marks: &[u8],
+    indexes: &[u64],
+) {
     let answer = centralized_telescope::check_distinct(data, ends, marks, indexes);
     match answer {
-        Distinctness::Distinct => say_of_file(name, b"no two elements are the same"),
+        Distinctness::Distinct => say_of_file(rt, name, b"no two elements are the same"),
         Distinctness::Repeated => {
             let later = first_repeat(data, ends, marks, indexes);
             let earlier = first_line_of(data, ends, marks, indexes, later);
-            say_lines(name, earlier, later);
+            say_lines(rt, name, earlier, later);
         }
         // The prover refuses the list too, and says so.
         Distinctness::Refused(_) => {}

@@ -4,13 +4,13 @@ ghost use Rattle.std.specs.Prelude.{◌≡◌, length};
 use crate::write_and_verify::Counters;
 use crate::{repeats, write_and_verify};
 use centralized_telescope::{Params, ProofSearch, proof_search_number};
-use libc::STDOUT_FILENO;
 use outcomes::say_outcome;
 use proof_files::{first_numbers, is_there, say_of_file};
-use text::say::{say, say_figure};
+use std::rt::Files;
+use text::say::{say, say_figure, say_hex};
 
 // What is searched for: a proof, or a proof of the run that was prepared, which has this digest.
-#[derive(Drop)]
+#[derive(Clone, Copy)]
 pub struct Wanted {
     pub prepared: bool,
     pub digest: [u8; 32],
@@ -40,42 +40,42 @@ pub fn kept(n: usize, set_size: u64) -> u64 {
     2 * set_size
 }
 
-fn say_place(place: u32) {
-    say_figure(b" ", place as u64);
+fn say_place(rt: &impl Print, place: u32) {
+    say_figure(rt, b" ", place as u64);
 }
 
-fn say_places(places: &[u32]) {
+fn say_places(rt: &impl Print, places: &[u32]) {
     let mut i = 0;
     while i < places.len() {
-        say_place(places[i]);
+        say_place(rt, places[i]);
         i += 1;
     }
 }
 
-pub fn say_found(counters: Counters, count: u64, places: &[u32]) {
+pub fn say_found(rt: &impl Print, counters: Counters, count: u64, places: &[u32]) {
     let retry = counters.retry;
     let search = counters.search;
-    say_figure(b"found: R ", retry.0);
-    say_figure(b", S ", search.0);
-    say_figure(b", steps ", count);
-    say(b"\nplaces:");
-    say_places(places);
-    say(b"\n");
+    say_figure(rt, b"found: R ", retry.0);
+    say_figure(rt, b", S ", search.0);
+    say_figure(rt, b", steps ", count);
+    say(rt, b"\nplaces:");
+    say_places(rt, places);
+    say(rt, b"\n");
 }
 
-fn say_not_found(number: u64, count: u64) {
-    say_figure(b"not found, steps ", count);
-    say_outcome(b"", number);
+fn say_not_found(rt: &impl Print, number: u64, count: u64) {
+    say_figure(rt, b"not found, steps ", count);
+    say_outcome(rt, b"", number);
 }
 
 // What came of a search that found nothing, or was refused.
-pub fn say_without_proof(found: ProofSearch) {
+pub fn say_without_proof(rt: &impl Print, found: ProofSearch) {
     let number = proof_search_number(found) as u64;
     match found {
         ProofSearch::Found(_, _, _) => {}
-        ProofSearch::NotFoundInBounds(count) => say_not_found(number, count),
-        ProofSearch::NotFound(count) => say_not_found(number, count),
-        ProofSearch::Refused(_) => say_outcome(b"refused", number),
+        ProofSearch::NotFoundInBounds(count) => say_not_found(rt, number, count),
+        ProofSearch::NotFound(count) => say_not_found(rt, number, count),
+        ProofSearch::Refused(_) => say_outcome(rt, b"refused", number),
     }
 }
 
@@ -98,6 +98,7 @@ fn find(
 
 // Says whether two elements are the same, which the prover doesn't ask; searches, and says what came of it.
 fn search(
+    rt: &(impl Files + Print),
     p: Params,
     wanted: Wanted,
     elements: &[u8],
@@ -107,7 +108,7 @@ fn search(
     marks: &[u8],
     indexes: &[u64],
 ) {
-    repeats::say_repeats(elements, data, ends, marks, indexes);
+    repeats::say_repeats(rt, elements, data, ends, marks, indexes);
     let mut places = [0u32; 1024];
     let mut table = table_room();
     let found = find(
@@ -124,61 +125,73 @@ fn search(
         ProofSearch::Found(retry, search, count) => {
             let counters = Counters { retry, search };
             let chain = first_numbers(&places, p.proof_size as usize);
-            say_found(counters, count, chain);
-            write_and_verify::run(p, proof, counters, chain, data, ends, marks, indexes);
+            say_found(rt, counters, count, chain);
+            write_and_verify::run(rt, p, proof, counters, chain, data, ends, marks, indexes);
         }
-        _ => say_without_proof(found),
+        _ => say_without_proof(rt, found),
     }
 }
 
-pub fn say_settings(p: Params) {
-    say_figure(b"settings: set size ", p.set_size);
-    say_figure(b", proof size ", p.proof_size);
-    say_figure(b", tries up to ", p.max_retries);
-    say_figure(b", search width ", p.search_width);
-    say_figure(b", step bound ", p.dfs_bound);
-    say(b", X ");
+pub fn say_settings(rt: &impl Print, p: Params) {
+    say_figure(rt, b"settings: set size ", p.set_size);
+    say_figure(rt, b", proof size ", p.proof_size);
+    say_figure(rt, b", tries up to ", p.max_retries);
+    say_figure(rt, b", search width ", p.search_width);
+    say_figure(rt, b", step bound ", p.dfs_bound);
+    say(rt, b", X ");
     let x = p.x;
-    io::print_hex(STDOUT_FILENO, x.hi, 16);
-    io::print_hex(STDOUT_FILENO, x.lo, 16);
-    say(b"\n");
+    say_hex(rt, x.hi);
+    say_hex(rt, x.lo);
+    say(rt, b"\n");
 }
 
-pub fn say_task(p: Params, elements: &[u8], n: usize) {
-    say_settings(p);
-    say(elements);
-    say_figure(b": elements read ", n as u64);
-    say_figure(b", kept for the search ", kept(n, p.set_size));
-    say(b"\n");
+pub fn say_task(rt: &impl Print, p: Params, elements: &[u8], n: usize) {
+    say_settings(rt, p);
+    say(rt, elements);
+    say_figure(rt, b": elements read ", n as u64);
+    say_figure(rt, b", kept for the search ", kept(n, p.set_size));
+    say(rt, b"\n");
 }
 
 // The proof's file must be new: no file is overwritten, and above all not the elements', whatever path or link leads there. It is asked
 // before the search, which may be long.
-pub fn is_taken(proof: &[u8]) -> bool {
-    let taken = is_there(proof);
+pub fn is_taken(rt: &(impl Files + Print), proof: &[u8]) -> bool {
+    let taken = is_there(rt, proof);
     if taken {
-        say_of_file(proof, b"is there already; a proof never overwrites a file");
+        say_of_file(
+            rt,
+            proof,
+            b"is there already; a proof never overwrites a file",
+        );
     }
     taken
 }
 
 // Reads the file of elements, searches, and writes the proof's file.
-pub fn run(p: Params, wanted: Wanted, elements: &[u8], proof: &[u8]) {
-    if is_taken(proof) {
+pub fn run(rt: &(impl Files + Print), p: Params, wanted: Wanted, elements: &[u8], proof: &[u8]) {
+    if is_taken(rt, proof) {
         return;
     }
     let mut data = proof_files::data_room();
     let mut ends = proof_files::ends_room();
     let mut marks = proof_files::marks_room();
     let mut indexes = proof_files::indexes_room();
-    let list = proof_files::read_elements(elements, &mut data, &mut ends, &mut marks, &mut indexes);
+    let list = proof_files::read_elements(
+        rt,
+        elements,
+        &mut data,
+        &mut ends,
+        &mut marks,
+        &mut indexes,
+    );
     if !list.whole {
         return;
     }
     let n = list.elements;
     let bytes = list.bytes;
-    say_task(p, elements, n);
+    say_task(rt, p, elements, n);
     search(
+        rt,
         p,
         wanted,
         elements,

@@ -8,10 +8,11 @@ use outcomes::{say_outcome, say_refused};
 use proof_files::{
     CountersLine, first_bytes, first_indexes, first_numbers, is_proof_written, say_of_file,
 };
+use std::rt::Files;
 use text::say::say;
 
 // R and S of a proof.
-#[derive(Drop)]
+#[derive(Clone, Copy)]
 pub struct Counters {
     pub retry: RetryCounter,
     pub search: SearchCounter,
@@ -24,17 +25,18 @@ fn data_room() -> [u8; 524288]
     [0; 524288]
 }
 
-fn say_verdict(verdict: Verdict) {
+fn say_verdict(rt: &impl Print, verdict: Verdict) {
     let number = verdict_number(verdict) as u64;
     if number == 0 {
-        say(b"green\n");
+        say(rt, b"green\n");
         return;
     }
-    say_outcome(b"dark", number);
+    say_outcome(rt, b"dark", number);
 }
 
 // The list of a proof's elements into its file, and what the verifier says of it.
 fn finish(
+    rt: &(impl Files + Print),
     p: Params,
     name: &[u8],
     counters: Counters,
@@ -49,24 +51,28 @@ fn finish(
         retry: retry.0,
         search: search.0,
     };
-    if !is_proof_written(name, line, data, ends, marks, indexes) {
-        say_of_file(name, b"can't be written");
+    if !is_proof_written(rt, name, line, data, ends, marks, indexes) {
+        say_of_file(rt, name, b"can't be written");
         return;
     }
-    say_of_file(name, b"the proof is written");
-    say_verdict(centralized_telescope::verify(
-        p,
-        counters.retry,
-        counters.search,
-        data,
-        ends,
-        marks,
-        indexes,
-    ));
+    say_of_file(rt, name, b"the proof is written");
+    say_verdict(
+        rt,
+        centralized_telescope::verify(
+            p,
+            counters.retry,
+            counters.search,
+            data,
+            ends,
+            marks,
+            indexes,
+        ),
+    );
 }
 
 // The elements at the places, as the proof's own list: written and verified.
 pub fn run(
+    rt: &(impl Files + Print),
     p: Params,
     name: &[u8],
     counters: Counters,
@@ -94,11 +100,12 @@ pub fn run(
     let bytes = match written {
         Written::List(bytes) => bytes,
         Written::Refused(k) => {
-            say_refused(k);
+            say_refused(rt, k);
             return;
         }
     };
     finish(
+        rt,
         p,
         name,
         counters,

@@ -1,5 +1,5 @@
 -- Round after round over the schedule.
-use Rattle.std.proofs.Common.{◌≡◌, ℕ, ◌+◌, ◌<◌, ◌≤◌, List, length, get_or, set, refl, ◌∙◌, add-one, arith, length-set, get_or-set_other, get_or-set_same}
+use Rattle.std.proofs.Common.{◌≡◌, ℕ, ◌+◌, ◌<◌, ◌≤◌, List, get_or, set, refl, ◌∙◌, add-one, arith, length-set, get_or-set_other, get_or-set_same}
 use native.Mathlib.Decide.{dec_lt}
 use Rattle.sampling.specs.core.Fips180.{K256, W, one_round, rounds}
 use Rattle.sampling.specs.inner.HashInner.{AfterRounds, RoundsFrom}

@@ -1,7 +1,6 @@
 -- Bytes that are written: a number's from the last back, a string's into an array, words' one after the other.
-use Rattle.std.proofs.Common.{◌≡◌, ℕ, zero, suc, ◌+◌, ◌-◌, ◌*◌, ◌/◌, ◌%◌, ◌<◌, ◌≤◌, List, [], ◌∷◌, ◌++◌, length, get_or, take, drop, set, sym, ap, ◌∙◌, subst, append_assoc, append-nil, le_of_suc-le-suc, not-suc-le-zero, add-one, arith, length-append, length-drop, drop_of_length-le, length-take, length-take-le, drop-drop, take_at, drop_at}
-use lib.Seq.{take-length, drop-length, set_split, sets, sets-eq}
-use Rattle.sampling.specs.laws.CommonLaws.{all_behind}
+use Rattle.std.proofs.Common.{◌≡◌, ℕ, zero, suc, ◌+◌, ◌-◌, ◌*◌, ◌/◌, ◌%◌, ◌<◌, ◌≤◌, List, [], ◌∷◌, ◌++◌, length, get_or, take, drop, set, sym, ap, ◌∙◌, subst, append_assoc, append-nil, le_of_suc-le-suc, not-suc-le-zero, add-one, arith, length-append, length-drop, length-take, length-take-le, drop-drop, take_at, drop_at}
+use lib.Seq.{drop-length, set_split, sets, sets-eq}
 use Rattle.sampling.specs.core.BigEndian.{bytes_of}
 use Rattle.sampling.specs.laws.BigEndianLaws.{length_bytes_of}
 use Rattle.sampling.specs.core.Fips180.{word_bytes}
@@ -35,22 +34,10 @@ all_written r out w e = e
 
 -- ---- a string
 
--- a copy into the part that starts at a: p is what the part, n bytes long, holds then
-pub copied_in : (b s p : List ℕ) (a n : ℕ) → a + length s ≤ length b → n ≡ length b - a
-    → p ≡ take (length s) s ++ drop (length s) (take n (drop a b))
+-- a copy into the part that starts at a, n bytes long: p is what that part holds then
+pub copied_in : (b s p : List ℕ) (a n : ℕ) → a + length s ≤ length b → n ≡ length s → p ≡ s
     → take a b ++ (p ++ drop n (drop a b)) ≡ sets b a s
-copied_in b s p a n le k e =
-    rw (
-      e,
-      k,
-      take-length s,
-      all_behind b a,
-      drop-drop (length s) a b,
-      drop_of_length-le (drop a b) {i = length b - a} (omega (arith, length-drop a b)),
-      append-nil (s ++ drop (a + length s) b),
-      sets-eq s b a le,
-      append_assoc,
-    )
+copied_in b s p a n le k e = rw (e, k, drop-drop (length s) a b, sets-eq s b a le, append_assoc)
 
 -- ---- words
 

@@ -14,7 +14,7 @@ fn seed_of(h: &[u8]) -> [u8; 16]
     ensures { result ≡ h.now }
 {
     let mut seed = [0u8; 16];
-    bytes::copy(h, &mut seed);
+    seed.copy_from_slice(h);
     seed
 }
 
@@ -42,8 +42,7 @@ fn draw_value(d: Draw) -> u64
 
 // 0 with the value drawn in the 8 bytes of `out`, the highest first; otherwise `out` is untouched and the answer is
 // 1: no draw; 7: n is 0; 8: h's length isn't 16, or `out`'s isn't 8.
-#[unsafe(no_mangle)]
-pub extern "C" fn alba_sample_uniform(h: &[u8], n: u64, out: &mut [u8]) -> u32
+pub fn alba_sample_uniform(h: &[u8], n: u64, out: &mut [u8]) -> u32
     ensures { (result, out.new) ≡ exported_uniform h.now n out.old }
 {
     if n == 0 {
@@ -64,8 +63,7 @@ pub extern "C" fn alba_sample_uniform(h: &[u8], n: u64, out: &mut [u8]) -> u32
 }
 
 // 1: yes; 0: no; 8: h's length isn't 16. X is passed as its high word, then its low.
-#[unsafe(no_mangle)]
-pub extern "C" fn alba_sample_bernoulli(h: &[u8], x_high: u64, x_low: u64) -> u32
+pub fn alba_sample_bernoulli(h: &[u8], x_high: u64, x_low: u64) -> u32
     ensures { result ≡ exported_bernoulli h.now (record { hi = x_high; lo = x_low }) }
 {
     if h.len() != 16 {
@@ -83,8 +81,7 @@ pub extern "C" fn alba_sample_bernoulli(h: &[u8], x_high: u64, x_low: u64) -> u3
 
 // 0 with the halves of q's X in the two numbers of `out`, the high one first; otherwise `out` is untouched and the answer is
 // 8: `out` isn't two numbers; 3: q is no number from 0 to 1.
-#[unsafe(no_mangle)]
-pub extern "C" fn alba_threshold(q: f64, out: &mut [u64]) -> u32
+pub fn alba_threshold(q: f64, out: &mut [u64]) -> u32
     ensures { (result, out.new) ≡ exported_threshold q out.old }
 {
     if out.len() != 2 {

@@ -8,14 +8,14 @@ ghost use Rattle.sampling.specs.later.Threshold.{outside_unit, threshold, conver
 use crate::big_endian::number_of;
 
 // A number of 128 bits: hi * 2^64 + lo.
-#[derive(Drop)]
+#[derive(Clone, Copy)]
 pub struct U128 {
     pub hi: u64,
     pub lo: u64,
 }
 
 // What a uniform draw answers.
-#[derive(Drop)]
+#[derive(Clone, Copy)]
 pub enum Draw {
     Value(u64),
     NoDraw,
@@ -23,7 +23,7 @@ pub enum Draw {
 }
 
 // What a probability comes to: a number of 128 bits that the hash must stay below.
-#[derive(Drop)]
+#[derive(Clone, Copy)]
 pub enum Threshold {
     At(U128),
     Refused,

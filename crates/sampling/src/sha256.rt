@@ -15,7 +15,7 @@ use crate::big_endian;
 pub const MAX_HASHED: usize = 0x2000_0000;
 
 // The hash value H, or the eight working variables a to h.
-#[derive(Drop)]
+#[derive(Clone, Copy)]
 pub struct State {
     pub a: u32,
     pub b: u32,
@@ -29,7 +29,7 @@ pub struct State {
 
 // What has been absorbed so far: the hash value after the whole blocks, the bytes of the block that is being filled, and
 // how many bytes there were in all (over 2^29: too many).
-#[derive(Drop)]
+#[derive(Clone, Copy)]
 pub struct Hasher {
     pub state: State,
     pub block: [u8; 64],
@@ -37,7 +37,7 @@ pub struct Hasher {
 }
 
 // 0 and the digest, or 9 and zeros.
-#[derive(Drop)]
+#[derive(Clone, Copy)]
 pub struct Hashed {
     pub number: u32,
     pub digest: [u8; 32],
@@ -305,7 +305,7 @@ fn with_bytes(block: [u8; 64], at: usize, s: &[u8]) -> [u8; 64]
     ensures { result ≡ sets block at s.now }
 {
     let mut out = block;
-    bytes::copy(s, &mut out[at..]);
+    out[at..at + s.len()].copy_from_slice(s);
     out
 }
 
@@ -411,7 +411,7 @@ fn with_string(m: [u8; 128], at: usize, s: &[u8]) -> [u8; 128]
     ensures { result ≡ sets m at s.now }
 {
     let mut out = m;
-    bytes::copy(s, &mut out[at..]);
+    out[at..at + s.len()].copy_from_slice(s);
     out
 }
 

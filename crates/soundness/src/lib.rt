@@ -1,4 +1,5 @@
 // What green means, if SHA-256 is as a function drawn at random: above the telescope, definitions and theorems alone.
+#![tactic(auto)]
 
 mod theorems;
 

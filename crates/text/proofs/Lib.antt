@@ -3,4 +3,5 @@ mod DecimalLaws
 mod DigitLaws
 mod HexRead
 mod NanPatterns
+mod SearchLaws
 mod WordsRead

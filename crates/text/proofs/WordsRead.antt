@@ -7,8 +7,8 @@ use native.Mathlib.Numerals.{add-one}
 use native.Mathlib.Omega.{arith}
 use lib.ListN.{length, take, drop, get_or, drop_of_length-le}
 use lib.Dec.{eqb}
-use lib.Seq.{take-length, drop-drop, drop-nil, drop-cons}
-use Rattle.bytes.specs.Bytes.{index_of, slice}
+use lib.Seq.{drop-drop, drop-nil, drop-cons}
+use Rattle.text.specs.Search.{index_of}
 use Rattle.text.specs.Words.{word_count, first_word, behind_first, behind_words}
 use Rattle.text.specs.laws.PartLaws.{drop_within}
 
@@ -32,11 +32,6 @@ all_counted spaces i l h q =
     in omega (arith, last, q)
 
 -- ---- where they stand
-
--- the first space from a place on
-pub end_is : (r from : ℕ) (l : List ℕ) → r ≡ from + index_of 32 (slice from (length l) l) → r ≡ from + index_of 32 (drop from l)
-unfolding slice
-end_is r from l e = e ∙ ap (λ (m : List ℕ). from + index_of 32 (drop from m)) (take-length l)
 
 pub word_is : (start b e : ℕ) (l : List ℕ) → b ≡ min start (length l) → e ≡ b + index_of 32 (drop b l)
     → take (e - b) (drop b l) ≡ first_word (drop start l)

@@ -1,6 +1,6 @@
 -- The words of a line, which single spaces part. A line without a space is one word.
 use Rattle.std.specs.Prelude.{ℕ, zero, suc, ◌+◌, cond, List, [], ◌∷◌, eqb, take, drop}
-use Rattle.bytes.specs.Bytes.{index_of}
+use Rattle.text.specs.Search.{index_of}
 
 -- how many words a line has: one more than spaces
 unfoldable pub word_count : List ℕ → ℕ

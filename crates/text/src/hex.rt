@@ -5,9 +5,10 @@ ghost use Rattle.text.specs.Hexadecimal.{digit_value, is_sixteen, sixteen_value}
 
 use crate::least;
 use crate::number::{Number, unknown};
+use std::io::Write;
 
 // Whether a text writes bytes that fit, and how many.
-#[derive(Drop)]
+#[derive(Clone, Copy)]
 pub struct Unhexed {
     pub known: bool,
     pub len: usize,
@@ -117,21 +118,21 @@ fn digits_of(bytes: &[u8], out: &mut [u8]) -> usize
 }
 
 // Writes the digits of up to 2,048 bytes at once.
-fn write_some(fd: i32, bytes: &[u8]) -> bool {
+fn write_some(out: &mut impl Write, bytes: &[u8]) -> bool {
     let mut digits = io::buffer();
     let n = digits_of(bytes, &mut digits);
-    io::write_all(fd, &digits[..n])
+    out.write_all(&digits[..n]).is_ok()
 }
 
-// Writes the digits of all bytes, and answers as `io::write_all` does.
-pub fn write(fd: i32, bytes: &[u8]) -> bool {
+// Writes the digits of all bytes, and answers whether they were written.
+pub fn write(out: &mut impl Write, bytes: &[u8]) -> bool {
     let mut from = 0;
     while 2048 < bytes.len() - from {
         let to = from + 2048;
-        if !write_some(fd, &bytes[from..to]) {
+        if !write_some(out, &bytes[from..to]) {
             return false;
         }
         from = to;
     }
-    write_some(fd, &bytes[from..])
+    write_some(out, &bytes[from..])
 }

@@ -1,10 +1,12 @@
 // An open file read by its lines, through a lent buffer that a line and its end fit into.
 ghost use Rattle.std.specs.Prelude.{◌≡◌, ◌≤◌, ◌<◌, length, take, drop};
 
+use crate::scan::place_of;
 use crate::{input, least};
+use std::io::Read;
 
 // What came of reading a line.
-#[derive(Drop)]
+#[derive(Clone, Copy)]
 pub enum Came {
     Line,
     End,
@@ -14,7 +16,7 @@ pub enum Came {
 }
 
 // Where reading stands. Of the buffer, start to end is the line, without its line end; next to filled is what was read of those after it.
-#[derive(Drop)]
+#[derive(Clone, Copy)]
 pub struct Line {
     pub came: Came,
     pub number: u64,
@@ -70,15 +72,15 @@ fn line_end(buf: &[u8], from: usize, to: usize) -> usize
     requires { (from ≤ to) × (to ≤ length buf.now) }
     ensures { (from ≤ result) × (result ≤ to) }
 {
-    bytes::scan::find(buf, from, to, b'\n')
+    from + place_of(&buf[from..to], b'\n')
 }
 
 // The line at the front of the buffer, of which the first `part` bytes are read and have no line end.
-fn read_line(fd: i32, buf: &mut [u8], part: usize, number: u64) -> Line
+fn read_line(file: &mut impl Read, buf: &mut [u8], part: usize, number: u64) -> Line
     requires { part ≤ length buf.old }
     ensures { (result.start ≤ result.end) × (result.end ≤ result.next) × (result.next ≤ result.filled) × (result.filled ≤ length buf.old) }
 {
-    let read = input::fill(fd, buf, part);
+    let read = input::fill(file, buf, part);
     if read.failed {
         return no_line(Came::Unreadable, number);
     }
@@ -132,7 +134,7 @@ fn number_after(number: u64) -> u64 {
 }
 
 // The line after `last`, read from the file as far as the buffer doesn't have it.
-pub fn next(fd: i32, buf: &mut [u8], last: Line) -> Line
+pub fn next(file: &mut impl Read, buf: &mut [u8], last: Line) -> Line
     ensures { (result.start ≤ result.end) × (result.end ≤ result.next) × (result.next ≤ result.filled) × (result.filled ≤ length buf.old) }
 {
     let number = number_after(last.number);
@@ -143,5 +145,5 @@ pub fn next(fd: i32, buf: &mut [u8], last: Line) -> Line
         return whole_line(number, from, end, filled);
     }
     move_to_front(buf, from, filled);
-    read_line(fd, buf, filled - from, number)
+    read_line(file, buf, filled - from, number)
 }

@@ -3,7 +3,7 @@ ghost use Rattle.std.specs.Prelude.{◌≡◌, false, cond, ◌&&◌, ◌^◌, l
 ghost use Rattle.text.specs.Decimal.{is_digit, with_digit, is_decimal, decimal_value};
 
 // What a text writes: the number, where it writes one.
-#[derive(Drop)]
+#[derive(Clone, Copy)]
 pub struct Number {
     pub known: bool,
     pub value: u64,

@@ -1,8 +1,9 @@
 // The words of a line, which single spaces part. Two spaces together have an empty word between them.
 ghost use Rattle.std.specs.Prelude.{◌≡◌, ◌+◌, ◌≤◌, ◌<◌, length, drop};
-ghost use Rattle.bytes.specs.Bytes.{index_of};
+ghost use Rattle.text.specs.Search.{index_of};
 ghost use Rattle.text.specs.Words.{word_count, first_word, behind_words};
 
+use crate::scan::place_of;
 use crate::{least, one_if};
 
 // Where the word that starts at `start` stops: at the next space, or with the line.
@@ -10,7 +11,7 @@ fn word_end(line: &[u8], start: usize) -> usize
     requires { start ≤ length line.now }
     ensures { (result ≡ start + index_of 32 (drop start line.now)) × (result ≤ length line.now) }
 {
-    bytes::scan::find(line, start, line.len(), b' ')
+    start + place_of(&line[start..], b' ')
 }
 
 // The word that starts at `start`; an empty one past the line's end.

@@ -7,8 +7,11 @@ use crate::say::{say_counts, say_line};
 use crate::{ask, ask_list, file, said};
 use proof_files::elements;
 use proof_files::elements::Adding;
+use std::io::Read;
+use std::rt::Files;
 use text::lines::Came;
 use text::say::say;
+use text::scan::place_of;
 use text::{least, lines, words};
 
 // More lines than any list has that is meant.
@@ -18,7 +21,7 @@ const MOST_LINES: usize = 65536;
 const KINDS: usize = 6;
 
 // How far a list was run: how many elements and data bytes the list of elements has that is under way, and whether a line was wrong.
-#[derive(Drop)]
+#[derive(Clone, Copy)]
 struct Progress {
     elements: usize,
     bytes: usize,
@@ -27,22 +30,22 @@ struct Progress {
 
 // The kind of case that a word begins.
 fn kind_of(word: &[u8]) -> usize {
-    if check::same(word, b"uniform") {
+    if text::same(word, b"uniform") {
         return 0;
     }
-    if check::same(word, b"bernoulli") {
+    if text::same(word, b"bernoulli") {
         return 1;
     }
-    if check::same(word, b"small") {
+    if text::same(word, b"small") {
         return 2;
     }
-    if check::same(word, b"distinct") {
+    if text::same(word, b"distinct") {
         return 3;
     }
-    if check::same(word, b"prove") {
+    if text::same(word, b"prove") {
         return 4;
     }
-    if check::same(word, b"verify") {
+    if text::same(word, b"verify") {
         return 5;
     }
     KINDS
@@ -72,32 +75,40 @@ fn ask_it(
 }
 
 // No case: the line lacks its form, or is an element past the room in `run`. The first line that is wrong is said.
-fn malformed(name: &[u8], number: u64, is_first: bool) -> usize {
+fn malformed(rt: &impl Print, name: &[u8], number: u64, is_first: bool) -> usize {
     if is_first {
-        say_line(name, number);
-        say(b"not of the list's form\n");
+        say_line(rt, name, number);
+        say(rt, b"not of the list's form\n");
     }
     KINDS
 }
 
 // Whether the stored answer came out. If not, and the line is the first such, it says what did.
-fn is_equal(name: &[u8], number: u64, said: &[u8], stored: &[u8], is_first: bool) -> bool {
-    if check::same(said, stored) {
+fn is_equal(
+    rt: &impl Print,
+    name: &[u8],
+    number: u64,
+    said: &[u8],
+    stored: &[u8],
+    is_first: bool,
+) -> bool {
+    if text::same(said, stored) {
         return true;
     }
     if is_first {
-        say_line(name, number);
-        say(b"came out as ");
-        say(said);
-        say(b", stored is ");
-        say(stored);
-        say(b"\n");
+        say_line(rt, name, number);
+        say(rt, b"came out as ");
+        say(rt, said);
+        say(rt, b", stored is ");
+        say(rt, stored);
+        say(rt, b"\n");
     }
     false
 }
 
 // The kind of a case whose stored answer came out, and none otherwise.
 fn run_case(
+    rt: &impl Print,
     name: &[u8],
     line: &[u8],
     number: u64,
@@ -108,26 +119,26 @@ fn run_case(
     indexes: &[u64],
     out: &mut [u8],
 ) -> usize {
-    let at = bytes::scan::find(line, 0, line.len(), b'=');
+    let at = place_of(line, b'=');
     if at < 1 {
-        return malformed(name, number, is_first);
+        return malformed(rt, name, number, is_first);
     }
     if line.len() - at < 2 {
-        return malformed(name, number, is_first);
+        return malformed(rt, name, number, is_first);
     }
     let before = at - 1;
     let after = at + 1;
     if line[before] != b' ' || line[after] != b' ' {
-        return malformed(name, number, is_first);
+        return malformed(rt, name, number, is_first);
     }
     let kind = kind_of(words::word(line, 0));
     let said = ask_it(&line[..before], kind, data, ends, marks, indexes, out);
     if !said.known {
-        return malformed(name, number, is_first);
+        return malformed(rt, name, number, is_first);
     }
     let stored = after + 1;
     let len = said.len;
-    if is_equal(name, number, &out[..len], &line[stored..], is_first) {
+    if is_equal(rt, name, number, &out[..len], &line[stored..], is_first) {
         return kind;
     }
     KINDS
@@ -154,6 +165,7 @@ fn wrong(so_far: Progress) -> Progress {
 
 // The list of elements with one more.
 fn add_element(
+    rt: &impl Print,
     name: &[u8],
     line: &[u8],
     number: u64,
@@ -180,7 +192,7 @@ fn add_element(
             wrong: so_far.wrong,
         },
         _ => {
-            malformed(name, number, !so_far.wrong);
+            malformed(rt, name, number, !so_far.wrong);
             wrong(so_far)
         }
     }
@@ -188,6 +200,7 @@ fn add_element(
 
 // A case, of the elements so far.
 fn add_case(
+    rt: &impl Print,
     name: &[u8],
     line: &[u8],
     number: u64,
@@ -204,6 +217,7 @@ fn add_case(
     let marked = least(so_far.elements, marks.len());
     let indexed = least(so_far.elements, indexes.len());
     let kind = run_case(
+        rt,
         name,
         line,
         number,
@@ -223,10 +237,11 @@ fn add_case(
 
 // Whether a line's first word is this one.
 fn begins(line: &[u8], word: &[u8]) -> bool {
-    check::same(words::word(line, 0), word)
+    text::same(words::word(line, 0), word)
 }
 
 fn run_line(
+    rt: &impl Print,
     name: &[u8],
     line: &[u8],
     number: u64,
@@ -241,7 +256,7 @@ fn run_line(
     if begins(line, b"#") {
         return so_far;
     }
-    if check::same(line, b"list") {
+    if text::same(line, b"list") {
         return Progress {
             elements: 0,
             bytes: 0,
@@ -249,17 +264,28 @@ fn run_line(
         };
     }
     if 2 <= line.len() && begins(line, b"+") {
-        return add_element(name, &line[2..], number, so_far, data, ends, marks, indexes);
+        return add_element(
+            rt,
+            name,
+            &line[2..],
+            number,
+            so_far,
+            data,
+            ends,
+            marks,
+            indexes,
+        );
     }
     add_case(
-        name, line, number, so_far, data, ends, marks, indexes, out, counts,
+        rt, name, line, number, so_far, data, ends, marks, indexes, out, counts,
     )
 }
 
 // Whether each line of an open list is right, to the list's end. The cases whose answers came out are counted by their kinds.
 fn run_open(
+    rt: &impl Print,
     name: &[u8],
-    fd: i32,
+    list: &mut impl Read,
     room: &mut [u8],
     data: &mut [u8],
     ends: &mut [u32],
@@ -276,7 +302,7 @@ fn run_open(
     let mut line = lines::none_yet();
     let mut turn = 0;
     while turn < MOST_LINES {
-        line = lines::next(fd, room, line);
+        line = lines::next(list, room, line);
         let came = line.came;
         match came {
             Came::Line => {}
@@ -284,11 +310,12 @@ fn run_open(
                 return !so_far.wrong;
             }
             _ => {
-                file::say_end(name, came, line.number);
+                file::say_end(rt, name, came, line.number);
                 return false;
             }
         }
         so_far = run_line(
+            rt,
             name,
             lines::text_of(room, line),
             line.number,
@@ -307,20 +334,20 @@ fn run_open(
 
 // The same of a list by its name. There is room for a line, the elements under way and an answer; 407 elements and some 7,200 data bytes
 // are the most at once in answers.txt.
-fn run(name: &[u8], counts: &mut [u64]) -> bool {
-    let fd = file::open(name);
-    if fd < 0 {
+fn run(rt: &(impl Files + Print), name: &[u8], counts: &mut [u64]) -> bool {
+    let Some(mut list) = file::open(rt, name) else {
         return false;
-    }
+    };
     let mut room = file::room();
     let mut data = file::room();
     let mut out = file::room();
     let mut ends = [0u32; 512];
     let mut marks = [0u8; 512];
     let mut indexes = [0u64; 512];
-    let is_right = run_open(
+    run_open(
+        rt,
         name,
-        fd,
+        &mut list,
         &mut room,
         &mut data,
         &mut ends,
@@ -328,25 +355,23 @@ fn run(name: &[u8], counts: &mut [u64]) -> bool {
         &mut indexes,
         &mut out,
         counts,
-    );
-    libc::close(fd);
-    is_right
+    )
 }
 
-fn is_whole(what: &[u8], equal: u64, all: u64) -> bool {
-    say_counts(what, equal, all);
+fn is_whole(rt: &impl Print, what: &[u8], equal: u64, all: u64) -> bool {
+    say_counts(rt, what, equal, all);
     equal == all
 }
 
 // Whether every stored answer came out, and each kind has as many as the harness stores.
-pub fn are_equal(name: &[u8]) -> bool {
+pub fn are_equal(rt: &(impl Files + Print), name: &[u8]) -> bool {
     let mut counts = [0u64; KINDS];
-    let is_right = run(name, &mut counts);
-    let uniform = is_whole(b"the Rust's answers, uniform", counts[0], 800);
-    let bernoulli = is_whole(b"the Rust's answers, bernoulli", counts[1], 600);
-    let small = is_whole(b"the Rust's answers, small", counts[2], 400);
-    let distinct = is_whole(b"the definition's answers, distinct", counts[3], 250);
-    let prove = is_whole(b"the Rust's answers, prove", counts[4], 600);
-    let verify = is_whole(b"the Rust's answers, verify", counts[5], 750);
+    let is_right = run(rt, name, &mut counts);
+    let uniform = is_whole(rt, b"the Rust's answers, uniform", counts[0], 800);
+    let bernoulli = is_whole(rt, b"the Rust's answers, bernoulli", counts[1], 600);
+    let small = is_whole(rt, b"the Rust's answers, small", counts[2], 400);
+    let distinct = is_whole(rt, b"the definition's answers, distinct", counts[3], 250);
+    let prove = is_whole(rt, b"the Rust's answers, prove", counts[4], 600);
+    let verify = is_whole(rt, b"the Rust's answers, verify", counts[5], 750);
     is_right && uniform && bernoulli && small && distinct && prove && verify
 }

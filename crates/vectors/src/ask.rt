@@ -14,14 +14,14 @@ use text::number::Number;
 use text::{double, words};
 
 // A double, where a word writes one by its bits.
-#[derive(Drop)]
+#[derive(Clone, Copy)]
 pub struct KnownDouble {
     pub known: bool,
     pub value: f64,
 }
 
 // A hash's 16 bytes, where a word writes them.
-#[derive(Drop)]
+#[derive(Clone, Copy)]
 struct KnownHash {
     known: bool,
     bytes: [u8; 16],

@@ -17,14 +17,14 @@ const MARK: u32 = 0xffff_ffff;
 const Q_REFUSED: u64 = 3;
 
 // X of a question's q. Where the converter refuses q, X is 0 here and isn't used.
-#[derive(Drop)]
+#[derive(Clone, Copy)]
 struct Converted {
     is_refused: bool,
     x: U128,
 }
 
 // Settings, where a question writes them after its first word, with q in place of X.
-#[derive(Drop)]
+#[derive(Clone, Copy)]
 struct KnownSettings {
     known: bool,
     is_q_refused: bool,

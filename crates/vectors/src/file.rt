@@ -2,29 +2,30 @@
 ghost use Rattle.std.specs.Prelude.{◌≡◌, length};
 
 use crate::say::say_line;
+use std::rt::Files;
 use text::lines::Came;
 use text::say::say;
 
-// Opens a list: its descriptor, or below 0 and a message.
-pub fn open(name: &[u8]) -> i32 {
-    let fd = os::open_read(name);
-    if fd < 0 {
-        say(name);
-        say(b": can't be opened\n");
+// Opens a list, or says that it can't.
+pub fn open<R: Files + Print>(rt: &R, name: &[u8]) -> Option<R::File> {
+    let list = proof_files::open_read(rt, name);
+    if list.is_none() {
+        say(rt, name);
+        say(rt, b": can't be opened\n");
     }
-    fd
+    list
 }
 
 // Says what ended the reading of a list, where it was not the list's end.
-pub fn say_end(name: &[u8], came: Came, number: u64) {
+pub fn say_end(rt: &impl Print, name: &[u8], came: Came, number: u64) {
     match came {
         Came::TooLong => {
-            say_line(name, number);
-            say(b"too long\n");
+            say_line(rt, name, number);
+            say(rt, b"too long\n");
         }
         Came::Unreadable => {
-            say_line(name, number);
-            say(b"can't be read\n");
+            say_line(rt, name, number);
+            say(rt, b"can't be read\n");
         }
         _ => {}
     }

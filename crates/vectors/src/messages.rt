@@ -2,6 +2,8 @@
 ghost use Rattle.std.specs.Prelude.{◌≡◌, ◌+◌, ◌*◌, ◌≤◌};
 
 use crate::{file, ways};
+use std::io::Read;
+use std::rt::Files;
 use text::lines::Came;
 use text::{hex, lines, one_if};
 
@@ -9,14 +11,14 @@ use text::{hex, lines, one_if};
 const MOST_LINES: usize = 1024;
 
 // What came of a line: whether it has the form, and in how many of the eight ways the digest came out.
-#[derive(Drop)]
+#[derive(Clone, Copy)]
 struct Ran {
     formed: bool,
     equal: usize,
 }
 
 // What came of a list. The last two are the numbers of the first such lines, from 1, or 0.
-#[derive(Drop)]
+#[derive(Clone, Copy)]
 pub struct Report {
     pub lines: usize,
     pub whole: usize,
@@ -94,18 +96,18 @@ fn nothing() -> Report
 }
 
 // Every line of an open list.
-fn run_open(name: &[u8], fd: i32, room: &mut [u8]) -> Report
+fn run_open(rt: &impl Print, name: &[u8], list: &mut impl Read, room: &mut [u8]) -> Report
     ensures { (result.whole ≤ result.lines) × (result.lines ≤ 1024) }
 {
     let mut report = nothing();
     let mut line = lines::none_yet();
     while report.lines < MOST_LINES {
-        line = lines::next(fd, room, line);
+        line = lines::next(list, room, line);
         let came = line.came;
         match came {
             Came::Line => {}
             _ => {
-                file::say_end(name, came, line.number);
+                file::say_end(rt, name, came, line.number);
                 return report;
             }
         }
@@ -116,15 +118,12 @@ fn run_open(name: &[u8], fd: i32, room: &mut [u8]) -> Report
 }
 
 // Every line of a list.
-pub fn run(name: &[u8]) -> Report
+pub fn run(rt: &(impl Files + Print), name: &[u8]) -> Report
     ensures { (result.whole ≤ result.lines) × (result.lines ≤ 1024) }
 {
-    let fd = file::open(name);
-    if fd < 0 {
+    let Some(mut list) = file::open(rt, name) else {
         return nothing();
-    }
+    };
     let mut room = file::room();
-    let report = run_open(name, fd, &mut room);
-    libc::close(fd);
-    report
+    run_open(rt, name, &mut list, &mut room)
 }

@@ -6,7 +6,7 @@ use sampling::U128;
 use text::least;
 
 // Whether there is an answer, and how long it is.
-#[derive(Drop)]
+#[derive(Clone, Copy)]
 pub struct Said {
     pub known: bool,
     pub len: usize,

@@ -5,7 +5,7 @@ use sampling::sha256::{Hashed, Hasher, sha256};
 use text::least;
 
 // Where a message is cut into four strings.
-#[derive(Drop)]
+#[derive(Clone, Copy)]
 struct Cuts {
     a: usize,
     b: usize,
@@ -94,7 +94,7 @@ pub fn one_if_equal(hash: Hashed, wanted: &[u8]) -> usize
     if hash.number != 0 {
         return 0;
     }
-    if check::same(&digest, wanted) { 1 } else { 0 }
+    if text::same(&digest, wanted) { 1 } else { 0 }
 }
 
 fn equal_cuts(message: &[u8], wanted: &[u8], number: usize) -> usize

@@ -1,7 +1,9 @@
 -- Words about lists of numbers, indexes and lent lists that the definitions and contracts of this tier share.
 use Rattle.std.specs.Prelude.{ℕ, Bool, true, false, ◌&&◌, List, [], ◌∷◌, ◌==◌}
 use Rattle.std.proofs.Math.Option.{Option, none, some}
-use Rattle.centralized_telescope.specs.core.Elements.{Lent, lent_of, Slice}
+use Rattle.std.specs.Borrow.{MutBor}
+use denote.Triple.Both.{Both}
+use Rattle.centralized_telescope.specs.core.Elements.{Lent, lent_of}
 
 -- two lists hold the same numbers
 unfoldable pub same_numbers : List ℕ → List ℕ → Bool
@@ -19,6 +21,14 @@ abbrev pub number_of : Option ℕ → ℕ
 number_of none = 0
 number_of (some n) = n
 
--- the list that four slices hold at the end of a call
-abbrev pub lent_at_exit : Slice → Slice → Slice → Slice → Lent
+-- a buffer that is lent for writing as a contract has it, at the call and at the end
+abbrev pub Buffer : Type 0
+Buffer = Both (MutBor (List ℕ)) (MutBor (List ℕ))
+
+-- what four buffers hold at the call
+abbrev pub buffers_at_entry : Buffer → Buffer → Buffer → Buffer → Lent
+buffers_at_entry bytes ends marks indexes = lent_of bytes.entry.now ends.entry.now marks.entry.now indexes.entry.now
+
+-- the list that four buffers hold at the end of a call
+abbrev pub lent_at_exit : Buffer → Buffer → Buffer → Buffer → Lent
 lent_at_exit bytes ends marks indexes = lent_of bytes.exit.now ends.exit.now marks.exit.now indexes.exit.now

@@ -3,7 +3,6 @@ use Rattle.std.specs.Prelude.{◌≡◌, ℕ, zero, suc, ◌-◌, ◌*◌, ◌/�
 use Rattle.std.proofs.Common.{append_assoc, arith, eqb-true, length-append, length-take, length-drop, take-append-drop, take_at, drop_at, take-add, length-take-le}
 use Rattle.std.proofs.lemmas.Bool.{not-false}
 use Rattle.std.proofs.lemmas.List.{length-replicate, take-append-le, drop-append-le}
-use Rattle.sampling.specs.core.Fips180.{sha256}
 use Rattle.sampling.specs.laws.HashLaws.{length_sha256}
 use Rattle.centralized_telescope.specs.laws.TestLaws.{both, neither}
 use Rattle.centralized_telescope.specs.laws.BytesLaws.{Bytes, bytes_take, bytes_drop, bytes_append}

@@ -4,7 +4,6 @@ use Rattle.std.proofs.Common.{sym, ap, ◌∙◌, append_assoc, append-nil, add-
 use Rattle.sampling.specs.core.BigEndian.{big_endian, bytes_of}
 use Rattle.sampling.specs.core.Fips180.{sha256}
 use Rattle.sampling.specs.core.Hash.{max_hashed, hashed, hashed_by}
-use Rattle.sampling.specs.core.Sample.{value_of}
 use Rattle.sampling.specs.declared.sha256.Hashed.{Hashed}
 use Rattle.sampling.specs.declared.sha256.Hasher.{Hasher}
 use Rattle.sampling.specs.later.Hasher.{new_hasher, absorbed, finished}
