@@ -239,38 +239,31 @@ static uint32_t leading_zeros(uint64_t x, uint32_t width) {
     return n;
 }
 
-/* bytes::copy */
-static uint64_t bytes_copy(struct slice l1, struct slice l2) {
-    uint64_t l0;
+/* core::slice::copy_from_slice */
+static void core_slice_copy_from_slice(struct slice l1, struct slice l2) {
     uint64_t l3;
-    uint64_t l4;
-    uint8_t l5;
+    uint8_t l4;
+    unsigned char *l5;
     unsigned char *l6;
-    uint8_t l7;
-    unsigned char *l8;
     l3 = UINT64_C(0);
     for (;;) {
-        l4 = l1.f1;
-        l5 = (uint8_t)(l3 < l4);
-        if (!l5) {
+        l4 = (uint8_t)(l3 < l2.f1);
+        if (!l4) {
             goto done_1;
         }
-        l6 = l1.f0 + (size_t)l3;
-        l7 = (*(uint8_t *)l6);
-        l8 = l2.f0 + (size_t)l3;
-        (*(uint8_t *)l8) = l7;
+        l5 = l1.f0 + (size_t)l3;
+        l6 = l2.f0 + (size_t)l3;
+        (*(uint8_t *)l5) = (*(uint8_t *)l6);
         l3 = (uint64_t)(l3 + UINT64_C(1));
     }
     done_1:;
-    l0 = l1.f1;
-    return l0;
+    return;
 }
 
 /* sampling::exports::seed_of */
 static struct array_16_uint8_t sampling_exports_seed_of(struct slice l1) {
     struct array_16_uint8_t l0;
     struct array_16_uint8_t l2;
-    uint64_t l3;
     unsigned char *l4;
     struct slice l5;
     {
@@ -281,8 +274,7 @@ static struct array_16_uint8_t sampling_exports_seed_of(struct slice l1) {
     }
     l4 = (unsigned char *)&l2;
     l5 = (struct slice){.f0 = l4, .f1 = UINT64_C(16)};
-    l3 = bytes_copy(l1, l5);
-    (void)l3;
+    core_slice_copy_from_slice(l5, l1);
     l0 = l2;
     return l0;
 }
@@ -1116,20 +1108,22 @@ static uint8_t sampling_sha256_fits(uint64_t l1, uint64_t l2, uint64_t l3, uint6
 static struct array_128_uint8_t sampling_sha256_with_string(struct array_128_uint8_t l1, uint64_t l2, struct slice l3) {
     struct array_128_uint8_t l0;
     struct array_128_uint8_t l4;
-    uint64_t l5;
-    unsigned char *l6;
-    unsigned char *l7;
-    uint64_t l8;
+    uint64_t l6;
+    uint64_t l7;
+    unsigned char *l8;
     unsigned char *l9;
-    struct slice l10;
+    uint64_t l10;
+    unsigned char *l11;
+    struct slice l12;
     l4 = l1;
-    l6 = (unsigned char *)&l4;
-    l7 = l6 + (size_t)l2;
-    l8 = (uint64_t)(UINT64_C(128) - l2);
-    l9 = l7;
-    l10 = (struct slice){.f0 = l9, .f1 = l8};
-    l5 = bytes_copy(l3, l10);
-    (void)l5;
+    l6 = l3.f1;
+    l7 = (uint64_t)(l2 + l6);
+    l8 = (unsigned char *)&l4;
+    l9 = l8 + (size_t)l2;
+    l10 = (uint64_t)(l7 - l2);
+    l11 = l9;
+    l12 = (struct slice){.f0 = l11, .f1 = l10};
+    core_slice_copy_from_slice(l12, l3);
     l0 = l4;
     return l0;
 }
@@ -1237,31 +1231,17 @@ static uint32_t sampling_sha256_word_at(struct slice l1, uint64_t l2) {
     return l0;
 }
 
-/* std::num::wrapping_add_u32 */
-static uint32_t std_num_wrapping_add_u32(uint32_t l1, uint32_t l2) {
+/* core::num::wrapping_add_u32 */
+static uint32_t core_num_wrapping_add_u32(uint32_t l1, uint32_t l2) {
     uint32_t l0;
-    uint32_t l3;
-    uint8_t l4;
-    uint32_t l5;
-    uint32_t l6;
-    uint32_t l7;
-    l3 = (uint32_t)(UINT32_C(4294967295) - l2);
-    l4 = (uint8_t)(l1 <= l3);
-    if (l4) {
-        l5 = (uint32_t)(l1 + l2);
-    } else {
-        l6 = (uint32_t)(UINT32_C(4294967295) - l2);
-        l7 = (uint32_t)(l1 - l6);
-        l5 = (uint32_t)(l7 - UINT32_C(1));
-    }
-    l0 = l5;
+    l0 = (uint32_t)(l1 + l2);
     return l0;
 }
 
 /* sampling::sha256::add */
 static uint32_t sampling_sha256_add(uint32_t l1, uint32_t l2) {
     uint32_t l0;
-    l0 = std_num_wrapping_add_u32(l1, l2);
+    l0 = core_num_wrapping_add_u32(l1, l2);
     return l0;
 }
 
@@ -1852,20 +1832,22 @@ static struct sampling_sha256_Hasher sampling_sha256_too_long(void) {
 static struct array_64_uint8_t sampling_sha256_with_bytes(struct array_64_uint8_t l1, uint64_t l2, struct slice l3) {
     struct array_64_uint8_t l0;
     struct array_64_uint8_t l4;
-    uint64_t l5;
-    unsigned char *l6;
-    unsigned char *l7;
-    uint64_t l8;
+    uint64_t l6;
+    uint64_t l7;
+    unsigned char *l8;
     unsigned char *l9;
-    struct slice l10;
+    uint64_t l10;
+    unsigned char *l11;
+    struct slice l12;
     l4 = l1;
-    l6 = (unsigned char *)&l4;
-    l7 = l6 + (size_t)l2;
-    l8 = (uint64_t)(UINT64_C(64) - l2);
-    l9 = l7;
-    l10 = (struct slice){.f0 = l9, .f1 = l8};
-    l5 = bytes_copy(l3, l10);
-    (void)l5;
+    l6 = l3.f1;
+    l7 = (uint64_t)(l2 + l6);
+    l8 = (unsigned char *)&l4;
+    l9 = l8 + (size_t)l2;
+    l10 = (uint64_t)(l7 - l2);
+    l11 = l9;
+    l12 = (struct slice){.f0 = l11, .f1 = l10};
+    core_slice_copy_from_slice(l12, l3);
     l0 = l4;
     return l0;
 }
@@ -2163,38 +2145,41 @@ static struct array_32_uint8_t centralized_telescope_round_start_hash(struct cen
     struct array_32_uint8_t l0;
     struct array_8_uint8_t l3;
     struct array_8_uint8_t l4;
-    struct array_20_uint8_t l5;
-    struct array_0_uint8_t l6;
-    struct array_8_uint8_t l7;
-    unsigned char *l8;
-    struct slice l9;
-    unsigned char *l10;
-    struct slice l11;
-    unsigned char *l12;
-    struct slice l13;
+    struct array_8_uint8_t l5;
+    unsigned char *l6;
+    unsigned char *l7;
+    struct slice l8;
+    unsigned char *l9;
+    struct slice l10;
+    unsigned char *l11;
+    struct slice l12;
+    unsigned char *l13;
     unsigned char *l14;
     struct slice l15;
+    l5 = sampling_big_endian_eight_bytes(l1.f0);
+    l3 = l5;
+    l5 = sampling_big_endian_eight_bytes(l2.f0);
+    l4 = l5;
     {
         static const struct array_20_uint8_t value = {{
             UINT8_C(84), UINT8_C(101), UINT8_C(108), UINT8_C(101), UINT8_C(115), UINT8_C(99), UINT8_C(111), UINT8_C(112),
             UINT8_C(101), UINT8_C(45), UINT8_C(114), UINT8_C(111), UINT8_C(117), UINT8_C(110), UINT8_C(100),
             UINT8_C(95), UINT8_C(104), UINT8_C(97), UINT8_C(115), UINT8_C(104)}};
-        l5 = value;
+        l6 = (unsigned char *)&value;
     }
-    l6 = (struct array_0_uint8_t){{0}};
-    l7 = sampling_big_endian_eight_bytes(l1.f0);
-    l3 = l7;
-    l7 = sampling_big_endian_eight_bytes(l2.f0);
-    l4 = l7;
-    l8 = (unsigned char *)&l5;
-    l9 = (struct slice){.f0 = l8, .f1 = UINT64_C(20)};
-    l10 = (unsigned char *)&l3;
-    l11 = (struct slice){.f0 = l10, .f1 = UINT64_C(8)};
-    l12 = (unsigned char *)&l4;
-    l13 = (struct slice){.f0 = l12, .f1 = UINT64_C(8)};
-    l14 = (unsigned char *)&l6;
+    l7 = l6;
+    l8 = (struct slice){.f0 = l7, .f1 = UINT64_C(20)};
+    l9 = (unsigned char *)&l3;
+    l10 = (struct slice){.f0 = l9, .f1 = UINT64_C(8)};
+    l11 = (unsigned char *)&l4;
+    l12 = (struct slice){.f0 = l11, .f1 = UINT64_C(8)};
+    {
+        static const struct array_0_uint8_t value = {{0}};
+        l13 = (unsigned char *)&value;
+    }
+    l14 = l13;
     l15 = (struct slice){.f0 = l14, .f1 = UINT64_C(0)};
-    l0 = centralized_telescope_round_digest(l9, l11, l13, l15);
+    l0 = centralized_telescope_round_digest(l8, l10, l12, l15);
     return l0;
 }
 
@@ -2203,7 +2188,6 @@ static struct array_16_uint8_t centralized_telescope_round_first_half(struct arr
     struct array_16_uint8_t l0;
     struct array_32_uint8_t l2;
     struct array_16_uint8_t l3;
-    uint64_t l4;
     unsigned char *l5;
     struct slice l6;
     unsigned char *l7;
@@ -2215,12 +2199,11 @@ static struct array_16_uint8_t centralized_telescope_round_first_half(struct arr
         for (i = 0; i < 16; i++)
             l3.a[i] = value;
     }
-    l5 = (unsigned char *)&l2;
+    l5 = (unsigned char *)&l3;
     l6 = (struct slice){.f0 = l5, .f1 = UINT64_C(16)};
-    l7 = (unsigned char *)&l3;
+    l7 = (unsigned char *)&l2;
     l8 = (struct slice){.f0 = l7, .f1 = UINT64_C(16)};
-    l4 = bytes_copy(l6, l8);
-    (void)l4;
+    core_slice_copy_from_slice(l6, l8);
     l0 = l3;
     return l0;
 }
@@ -2365,28 +2348,28 @@ static struct centralized_telescope_round_Id centralized_telescope_round_bin_of(
     struct slice l2, struct centralized_telescope_types_Index l3, uint64_t l4) {
     struct centralized_telescope_round_Id l0;
     struct array_8_uint8_t l5;
-    struct array_18_uint8_t l6;
-    struct array_8_uint8_t l7;
-    struct array_32_uint8_t l8;
+    struct array_8_uint8_t l6;
+    struct array_32_uint8_t l7;
+    unsigned char *l8;
     unsigned char *l9;
     struct slice l10;
     unsigned char *l11;
     struct slice l12;
+    l6 = sampling_big_endian_eight_bytes(l1.f0);
+    l5 = l6;
     {
         static const struct array_18_uint8_t value = {{
             UINT8_C(84), UINT8_C(101), UINT8_C(108), UINT8_C(101), UINT8_C(115), UINT8_C(99), UINT8_C(111), UINT8_C(112),
             UINT8_C(101), UINT8_C(45), UINT8_C(98), UINT8_C(105), UINT8_C(110), UINT8_C(95), UINT8_C(104), UINT8_C(97),
             UINT8_C(115), UINT8_C(104)}};
-        l6 = value;
+        l8 = (unsigned char *)&value;
     }
-    l7 = sampling_big_endian_eight_bytes(l1.f0);
-    l5 = l7;
-    l9 = (unsigned char *)&l6;
+    l9 = l8;
     l10 = (struct slice){.f0 = l9, .f1 = UINT64_C(18)};
     l11 = (unsigned char *)&l5;
     l12 = (struct slice){.f0 = l11, .f1 = UINT64_C(8)};
-    l8 = centralized_telescope_round_tail_digest(l10, l12, l2, l3);
-    l0 = centralized_telescope_round_round_id(l8, l4);
+    l7 = centralized_telescope_round_tail_digest(l10, l12, l2, l3);
+    l0 = centralized_telescope_round_round_id(l7, l4);
     return l0;
 }
 
@@ -2425,7 +2408,7 @@ static struct array_32_uint8_t centralized_telescope_round_hash_after(struct arr
     struct centralized_telescope_types_Index l3) {
     struct array_32_uint8_t l0;
     struct array_32_uint8_t l4;
-    struct array_20_uint8_t l5;
+    unsigned char *l5;
     unsigned char *l6;
     struct slice l7;
     unsigned char *l8;
@@ -2436,9 +2419,9 @@ static struct array_32_uint8_t centralized_telescope_round_hash_after(struct arr
             UINT8_C(84), UINT8_C(101), UINT8_C(108), UINT8_C(101), UINT8_C(115), UINT8_C(99), UINT8_C(111), UINT8_C(112),
             UINT8_C(101), UINT8_C(45), UINT8_C(114), UINT8_C(111), UINT8_C(117), UINT8_C(110), UINT8_C(100),
             UINT8_C(95), UINT8_C(104), UINT8_C(97), UINT8_C(115), UINT8_C(104)}};
-        l5 = value;
+        l5 = (unsigned char *)&value;
     }
-    l6 = (unsigned char *)&l5;
+    l6 = l5;
     l7 = (struct slice){.f0 = l6, .f1 = UINT64_C(20)};
     l8 = (unsigned char *)&l4;
     l9 = (struct slice){.f0 = l8, .f1 = UINT64_C(32)};
@@ -2472,17 +2455,17 @@ static struct centralized_telescope_round_Round centralized_telescope_proof_next
 static uint8_t centralized_telescope_round_proof_hash(struct array_32_uint8_t l1, struct sampling_sample_U128 l2) {
     uint8_t l0;
     struct array_32_uint8_t l3;
-    struct array_20_uint8_t l4;
-    struct array_0_uint8_t l5;
-    struct array_0_uint8_t l6;
-    struct array_16_uint8_t l7;
-    struct array_32_uint8_t l8;
+    struct array_16_uint8_t l4;
+    struct array_32_uint8_t l5;
+    unsigned char *l6;
+    unsigned char *l7;
+    struct slice l8;
     unsigned char *l9;
     struct slice l10;
     unsigned char *l11;
-    struct slice l12;
-    unsigned char *l13;
-    struct slice l14;
+    unsigned char *l12;
+    struct slice l13;
+    unsigned char *l14;
     unsigned char *l15;
     struct slice l16;
     l3 = l1;
@@ -2491,21 +2474,27 @@ static uint8_t centralized_telescope_round_proof_hash(struct array_32_uint8_t l1
             UINT8_C(84), UINT8_C(101), UINT8_C(108), UINT8_C(101), UINT8_C(115), UINT8_C(99), UINT8_C(111), UINT8_C(112),
             UINT8_C(101), UINT8_C(45), UINT8_C(112), UINT8_C(114), UINT8_C(111), UINT8_C(111), UINT8_C(102),
             UINT8_C(95), UINT8_C(104), UINT8_C(97), UINT8_C(115), UINT8_C(104)}};
-        l4 = value;
+        l6 = (unsigned char *)&value;
     }
-    l5 = (struct array_0_uint8_t){{0}};
-    l6 = (struct array_0_uint8_t){{0}};
-    l9 = (unsigned char *)&l4;
-    l10 = (struct slice){.f0 = l9, .f1 = UINT64_C(20)};
-    l11 = (unsigned char *)&l3;
-    l12 = (struct slice){.f0 = l11, .f1 = UINT64_C(32)};
-    l13 = (unsigned char *)&l5;
-    l14 = (struct slice){.f0 = l13, .f1 = UINT64_C(0)};
-    l15 = (unsigned char *)&l6;
+    l7 = l6;
+    l8 = (struct slice){.f0 = l7, .f1 = UINT64_C(20)};
+    l9 = (unsigned char *)&l3;
+    l10 = (struct slice){.f0 = l9, .f1 = UINT64_C(32)};
+    {
+        static const struct array_0_uint8_t value = {{0}};
+        l11 = (unsigned char *)&value;
+    }
+    l12 = l11;
+    l13 = (struct slice){.f0 = l12, .f1 = UINT64_C(0)};
+    {
+        static const struct array_0_uint8_t value = {{0}};
+        l14 = (unsigned char *)&value;
+    }
+    l15 = l14;
     l16 = (struct slice){.f0 = l15, .f1 = UINT64_C(0)};
-    l8 = centralized_telescope_round_digest(l10, l12, l14, l16);
-    l7 = centralized_telescope_round_first_half(l8);
-    l0 = sampling_sample_sample_bernoulli(l7, l2);
+    l5 = centralized_telescope_round_digest(l8, l10, l13, l16);
+    l4 = centralized_telescope_round_first_half(l5);
+    l0 = sampling_sample_sample_bernoulli(l4, l2);
     return l0;
 }
 
@@ -2515,13 +2504,15 @@ static uint8_t centralized_telescope_proof_last_passes(struct centralized_telesc
     uint8_t l0;
     struct array_32_uint8_t l3;
     uint8_t l4;
+    struct sampling_sample_U128 l5;
     l4 = centralized_telescope_proof_is_nowhere(l2);
     if (l4) {
         l0 = 0;
         return l0;
     }
     l3 = l2.f0;
-    l0 = centralized_telescope_round_proof_hash(l3, l1.f5);
+    l5 = l1.f5;
+    l0 = centralized_telescope_round_proof_hash(l3, l5);
     return l0;
 }
 
@@ -2800,8 +2791,10 @@ uint32_t alba_threshold(double l1, uint64_t *a2, size_t a2_len) {
     struct sampling_sample_U128 l4;
     uint64_t l5;
     uint8_t l6;
-    unsigned char *l7;
+    uint64_t l7;
     unsigned char *l8;
+    uint64_t l9;
+    unsigned char *l10;
     l5 = l2.f1;
     l6 = (uint8_t)(l5 != UINT64_C(2));
     if (l6) {
@@ -2818,10 +2811,12 @@ uint32_t alba_threshold(double l1, uint64_t *a2, size_t a2_len) {
         l0 = UINT32_C(3);
         return l0;
     }
-    l7 = l2.f0 + (size_t)UINT64_C(0);
-    (*(uint64_t *)l7) = l4.f0;
-    l8 = l2.f0 + (size_t)UINT64_C(8);
-    (*(uint64_t *)l8) = l4.f1;
+    l7 = l4.f0;
+    l8 = l2.f0 + (size_t)UINT64_C(0);
+    (*(uint64_t *)l8) = l7;
+    l9 = l4.f1;
+    l10 = l2.f0 + (size_t)UINT64_C(8);
+    (*(uint64_t *)l10) = l9;
     l0 = UINT32_C(0);
     return l0;
 }

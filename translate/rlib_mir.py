@@ -179,12 +179,22 @@ class Body:
             return f"(assign {place(held[0])} {value(held[1])})"
         if word == "Switch":
             return self.switch(*held)
-        if word == "LendStatic" and form(held[2])[0] == "Ints":
-            to, kind, (_, numbers) = held[0], held[1], form(held[2])
-            return f"(lendStatic {place(to)} {of_type(kind)} (ints {numbers['width']} {chain('l', map(str, numbers['values']))}))"
+        if word == "LendStatic":
+            return f"(lendStatic {place(held[0])} {of_type(held[1])} {self.lent(held[2])})"
         if word == "Call":
             return self.call(*held)
         raise unknown("statement", {word: held})
+
+    @staticmethod
+    def lent(constant):
+        """Numbers of one width, one by one or one of them repeated."""
+        word, held = form(constant)
+        if word == "Ints":
+            return f"(ints {held['width']} {chain('l', map(str, held['values']))})"
+        if word == "Repeat" and form(held[0])[0] == "Int":
+            one = form(held[0])[1]
+            return f"(ints {one['width']} {chain('l', [str(one['value'])] * held[1])})"
+        raise unknown("constant", constant)
 
     def switch(self, on, keys, has_default):
         arms = [f"(arm {chain('l', map(str, of))} {self.statement()} " for of in keys]

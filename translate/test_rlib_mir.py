@@ -81,12 +81,15 @@ class Forms(unittest.TestCase):
         self.assertEqual(Body([switch, "Skip", "Return"]).whole(), f"(switch (copy (place 1 lnil)) {arms.format('noDefault')})")
         switch["Switch"][2] = True
         self.assertEqual(Body([switch, "Skip", "Return", put]).whole(), f"(switch (copy (place 1 lnil)) {arms.format(f'(default {text})')})")
-        for body, why in ((["Seq", put], "ends within"), ([put, put], "goes on"), (["Unreachable"], "statement"), ([{"LendStatic": [local(0), U8, {"Int": {"width": 8, "value": 1}}]}], "statement")):
+        for body, why in ((["Seq", put], "ends within"), ([put, put], "goes on"), (["Unreachable"], "statement"), ([{"LendStatic": [local(0), U8, {"Int": {"width": 8, "value": 1}}]}], "constant")):
             self.refused(why, Body(body).whole)
 
     def test_what_is_lent(self):
         lent = {"LendStatic": [local(1), {"Array": [U8, {"Lit": 2}]}, {"Ints": {"width": 8, "values": [7, 8]}}]}
         self.assertEqual(Body([lent]).whole(), "(lendStatic (place 1 lnil) (tyArray (tyInt 8) (lenLit 2)) (ints 8 (lcons 7 (lcons 8 lnil))))")
+        for count, numbers in ((0, "lnil"), (2, "(lcons 5 (lcons 5 lnil))")):
+            lent = {"LendStatic": [local(1), {"Array": [U8, {"Lit": count}]}, {"Repeat": [{"Int": {"width": 8, "value": 5}}, count]}]}
+            self.assertEqual(Body([lent]).whole(), f"(lendStatic (place 1 lnil) (tyArray (tyInt 8) (lenLit {count})) (ints 8 {numbers}))")
 
     def test_calls(self):
         body = Body([call("a::f")])
