@@ -22,8 +22,7 @@ use centralized_telescope::{
 
 // SHA-256 of four strings joined into 32 lent bytes: 0 with the digest, 9 with zeros, or 8 with nothing written where `out`
 // isn't 32 bytes.
-#[unsafe(no_mangle)]
-pub extern "C" fn alba_sha256(a: &[u8], b: &[u8], c: &[u8], d: &[u8], out: &mut [u8]) -> u32
+pub fn alba_sha256(a: &[u8], b: &[u8], c: &[u8], d: &[u8], out: &mut [u8]) -> u32
     ensures { (result, out.new)
         ≡ exported_hash (a.now ++ (b.now ++ (c.now ++ d.now))) out.old }
 {
@@ -52,8 +51,7 @@ fn put_settings(s: SmallSettings, out: &mut [u64])
 
 // The small case's settings into six lent numbers, proof_size, max_retries, search_width, dfs_bound and the halves of X, the high one
 // first: 0, or 30 or 31, or 8 where `out` isn't six numbers; nothing is written then.
-#[unsafe(no_mangle)]
-pub extern "C" fn alba_small_case(u: u64, c: f64, out: &mut [u64]) -> u32
+pub fn alba_small_case(u: u64, c: f64, out: &mut [u64]) -> u32
     ensures { (result, out.new) ≡ exported_small_case u c out.old }
 {
     if out.len() != 6 {
@@ -71,8 +69,7 @@ pub extern "C" fn alba_small_case(u: u64, c: f64, out: &mut [u64]) -> u32
 
 // Whether no two elements of a lent list are the same, in data, mark and, where it is 1, index: 0 for yes, 1 for no, or the list's
 // refusal, 4 or 5.
-#[unsafe(no_mangle)]
-pub extern "C" fn alba_check_distinct(
+pub fn alba_check_distinct(
     data: &[u8],
     ends: &[u32],
     marks: &[u8],
@@ -138,8 +135,7 @@ fn put_counters(n: Numbers, out: &mut [u64])
 
 // The prover: 0 or the number. X is passed as its high word, then its low. `out` takes R, S and the step count where it has three numbers
 // or more.
-#[unsafe(no_mangle)]
-pub extern "C" fn alba_prove(
+pub fn alba_prove(
     set_size: u64,
     proof_size: u64,
     max_retries: u64,
@@ -175,8 +171,7 @@ pub extern "C" fn alba_prove(
 }
 
 // The prover over the pool of two lists, as `alba_prove`.
-#[unsafe(no_mangle)]
-pub extern "C" fn alba_prove_pool<'a>(
+pub fn alba_prove_pool<'a>(
     set_size: u64,
     proof_size: u64,
     max_retries: u64,
@@ -250,8 +245,7 @@ fn put_first(v: u64, out: &mut [u64])
 }
 
 // The writer of tickets: 0 or the number. `out` takes the number of blocks, 0 with a refusal, where it has a number or more.
-#[unsafe(no_mangle)]
-pub extern "C" fn alba_write_ticket(
+pub fn alba_write_ticket(
     retry: u64,
     search: u64,
     data: &[u8],
@@ -323,8 +317,7 @@ fn put_read(n: ReadNumbers, out: &mut [u64])
 
 // The reader of tickets: 0 or the number. `out` takes R, S, the number of elements and that of data bytes, zeros with a refusal, where it
 // has four numbers or more.
-#[unsafe(no_mangle)]
-pub extern "C" fn alba_read_ticket(
+pub fn alba_read_ticket(
     ticket: &[u8],
     data: &mut [u8],
     ends: &mut [u32],
@@ -342,8 +335,7 @@ pub extern "C" fn alba_read_ticket(
 }
 
 // The number of blocks that a ticket states; 0 where there isn't one block whole.
-#[unsafe(no_mangle)]
-pub extern "C" fn alba_stated_blocks(ticket: &[u8]) -> u64
+pub fn alba_stated_blocks(ticket: &[u8]) -> u64
     ensures { result ≡ blocks_in (bodies_of «ticket».now) }
 {
     centralized_telescope::stated_blocks(ticket)
@@ -387,8 +379,7 @@ fn put_amounts(a: Amounts, out: &mut [u64])
 
 // Planning: 0 or the number. `out` takes places, bin-table numbers, steps and blocks, zeros with a refusal, where it has four numbers or
 // more.
-#[unsafe(no_mangle)]
-pub extern "C" fn alba_plan(
+pub fn alba_plan(
     set_size: u64,
     proof_size: u64,
     max_retries: u64,
@@ -438,8 +429,7 @@ fn size_numbers(answer: SmallestSize) -> SizeNumbers
 }
 
 // The proof size of security figures: 0 or the number. `out` takes the size, 0 with a refusal, where it has a number or more.
-#[unsafe(no_mangle)]
-pub extern "C" fn alba_proof_size(s: u64, c: u64, n: u64, f: u64, out: &mut [u64]) -> u32
+pub fn alba_proof_size(s: u64, c: u64, n: u64, f: u64, out: &mut [u64]) -> u32
     ensures { ExportedSize s c n f out.old result out.new }
 {
     let answer = centralized_telescope::proof_size(s, c, n, f);
@@ -464,8 +454,7 @@ fn pool_numbers(answer: PoolSize) -> SizeNumbers
 }
 
 // The size of the pool of two lists: 0 or the number. `out` takes the size, 0 with a refusal, where it has a number or more.
-#[unsafe(no_mangle)]
-pub extern "C" fn alba_pool_size(
+pub fn alba_pool_size(
     data: &[u8],
     ends: &[u32],
     marks: &[u8],
@@ -489,8 +478,7 @@ pub extern "C" fn alba_pool_size(
 
 // The data of the element at a place of the pool: 0 with that part in the first lent bytes and its length in the first lent number, if
 // there is one; or 42 with nothing written where the part is longer than what is lent.
-#[unsafe(no_mangle)]
-pub extern "C" fn alba_pool_data<'a>(
+pub fn alba_pool_data<'a>(
     data: &'a [u8],
     ends: &[u32],
     marks: &[u8],
@@ -528,8 +516,7 @@ pub extern "C" fn alba_pool_data<'a>(
 
 // The prover's checks, and the digest of what it would search: 0 with the digest in the lent bytes, or the number with nothing written; 8
 // before all else where `out` isn't 32 bytes.
-#[unsafe(no_mangle)]
-pub extern "C" fn alba_prepare(
+pub fn alba_prepare(
     set_size: u64,
     proof_size: u64,
     max_retries: u64,
@@ -572,8 +559,7 @@ pub extern "C" fn alba_prepare(
 
 // The prover where the digest is that of what it is handed, as `alba_prove`; 8 before all else, with nothing written, where the digest
 // isn't 32 bytes.
-#[unsafe(no_mangle)]
-pub extern "C" fn alba_commit(
+pub fn alba_commit(
     set_size: u64,
     proof_size: u64,
     max_retries: u64,
@@ -635,8 +621,7 @@ fn put_parties(answers: TwoAnswers, out: &mut [u64])
 
 // Two parties served from one bin table: 0, with their answers as `put_parties` has them in `out`; 8 with nothing done or written where
 // `out` isn't six numbers.
-#[unsafe(no_mangle)]
-pub extern "C" fn alba_two_products(
+pub fn alba_two_products(
     table: &[u32],
     table_retry: u64,
     data: &[u8],
