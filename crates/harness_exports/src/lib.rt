@@ -69,12 +69,7 @@ pub fn alba_small_case(u: u64, c: f64, out: &mut [u64]) -> u32
 
 // Whether no two elements of a lent list are the same, in data, mark and, where it is 1, index: 0 for yes, 1 for no, or the list's
 // refusal, 4 or 5.
-pub fn alba_check_distinct(
-    data: &[u8],
-    ends: &[u32],
-    marks: &[u8],
-    indexes: &[u64],
-) -> u32
+pub fn alba_check_distinct(data: &[u8], ends: &[u32], marks: &[u8], indexes: &[u64]) -> u32
     ensures { result ≡ exported_distinct (lent_at_entry «data» ends marks indexes) }
 {
     let answer = centralized_telescope::check_distinct(data, ends, marks, indexes);

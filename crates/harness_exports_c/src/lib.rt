@@ -235,7 +235,9 @@ pub extern "C" fn alba_pool_size(
     ensures { (result, out.new)
         ≡ exported_pool_size (lent_at_entry «data» ends marks indexes) (lent_at_entry data2 ends2 marks2 indexes2) out.old }
 {
-    harness_exports::alba_pool_size(data, ends, marks, indexes, data2, ends2, marks2, indexes2, out)
+    harness_exports::alba_pool_size(
+        data, ends, marks, indexes, data2, ends2, marks2, indexes2, out,
+    )
 }
 
 // The data of the element at a place of the pool: 0 with that part in the first lent bytes and its length in the first lent number, if
@@ -259,17 +261,7 @@ pub extern "C" fn alba_pool_data<'a>(
         out.old }
 {
     harness_exports::alba_pool_data(
-        data,
-        ends,
-        marks,
-        indexes,
-        data2,
-        ends2,
-        marks2,
-        indexes2,
-        place,
-        part,
-        out,
+        data, ends, marks, indexes, data2, ends2, marks2, indexes2, place, part, out,
     )
 }
 
