@@ -1,6 +1,6 @@
 -- Reading blocks: checks compared one byte more and one block more, and one part more of the bodies copied.
 use Rattle.std.proofs.Common.{◌≡◌, ℕ, suc, ◌+◌, ◌-◌, ◌*◌, ◌/◌, ◌%◌, ◌<◌, ◌≤◌, Bool, true, false, ◌&&◌, List, length, get_or, take, drop, ◌∙◌, add-one, arith, length-drop, drop_of_length-le, drop-cons, drop-drop, eq-eqb, ne_eqb}
-use Rattle.centralized_telescope.specs.later.Words.{same_numbers}
+use Rattle.centralized_telescope.specs.later.Words.{same_bytes}
 use Rattle.centralized_telescope.specs.later.Blocks.{body_check, bodies, checks_hold, body_bytes, block_bytes, check_bytes}
 use Rattle.centralized_telescope.specs.laws.BlocksLaws.{length_bodies}
 use Rattle.centralized_telescope.specs.laws.BlocksReadLaws.{block_offset, body_part}
@@ -9,17 +9,17 @@ use Rattle.centralized_telescope.proofs.BlockWriting.{part, part_taken}
 -- ---- two lists compared from the front: what a number settles, and what it leaves to those behind it
 
 module _ (a b : List ℕ) (i : ℕ) where
-  pub numbers_done : length a ≤ i → length b ≤ i → same_numbers (drop i a) (drop i b) ≡ true
-  unfolding same_numbers
+  pub numbers_done : length a ≤ i → length b ≤ i → same_bytes (drop i a) (drop i b) ≡ true
+  unfolding same_bytes
   numbers_done h k = rw (drop_of_length-le a {i = i} h, drop_of_length-le b {i = i} k)
 
   module _ (h : i < length a) (k : i < length b) where
-    pub numbers_differ : (get_or a i 0 ≡ get_or b i 0 → ⊥) → same_numbers (drop i a) (drop i b) ≡ false
-    unfolding same_numbers
+    pub numbers_differ : (get_or a i 0 ≡ get_or b i 0 → ⊥) → same_bytes (drop i a) (drop i b) ≡ false
+    unfolding same_bytes
     numbers_differ e = rw (drop-cons a i 0 h, drop-cons b i 0 k, ne_eqb (get_or a i 0) (get_or b i 0) e)
 
-    pub numbers_agree : get_or a i 0 ≡ get_or b i 0 → same_numbers (drop i a) (drop i b) ≡ same_numbers (drop (i + 1) a) (drop (i + 1) b)
-    unfolding same_numbers
+    pub numbers_agree : get_or a i 0 ≡ get_or b i 0 → same_bytes (drop i a) (drop i b) ≡ same_bytes (drop (i + 1) a) (drop (i + 1) b)
+    unfolding same_bytes
     numbers_agree e = rw (drop-cons a i 0 h, drop-cons b i 0 k, eq-eqb (get_or a i 0) (get_or b i 0) e, add-one i)
 
 -- ---- and so blocks: the checks of those from the k-th on
@@ -33,10 +33,10 @@ checks_done k n t h = let e : n - k ≡ 0 = omega arith in rw e
 
 -- the first block of a string has the check of its body
 abbrev check_holds : List ℕ → Bool
-check_holds t = same_numbers (body_check (take body_bytes t)) (take check_bytes (drop body_bytes t))
+check_holds t = same_bytes (body_check (take body_bytes t)) (take check_bytes (drop body_bytes t))
 
 pub check_read : (at : ℕ) (t check : List ℕ) (r : Bool) → check ≡ body_check (part at body_bytes t)
-    → r ≡ same_numbers check (take (at + block_bytes - (at + body_bytes)) (drop (at + body_bytes) t))
+    → r ≡ same_bytes check (take (at + block_bytes - (at + body_bytes)) (drop (at + body_bytes) t))
     → r ≡ check_holds (drop at t)
 check_read at t check r C R =
     let e : at + block_bytes - (at + body_bytes) ≡ 8 = omega arith in R ∙ rw (C, part_taken at body_bytes t, e, drop-drop body_bytes at t)

@@ -19,7 +19,7 @@ use Rattle.centralized_telescope.specs.core.Bins.{table_of, bin_table}
 use Rattle.centralized_telescope.specs.core.Chains.{Try, try_of, Chain}
 use Rattle.centralized_telescope.specs.core.Search.{bin_list, try_count, try_finds}
 use Rattle.centralized_telescope.specs.core.Prover.{Proved, answer_of, refused, answered, proved_by, prover_refusal}
-use Rattle.centralized_telescope.specs.later.Words.{same_numbers}
+use Rattle.centralized_telescope.specs.later.Words.{same_bytes}
 use Rattle.centralized_telescope.specs.later.TwoProducts.{table_right, by_try, party_refusal, tried_alone}
 use Rattle.centralized_telescope.specs.inner.Seeing.{early_refusal}
 use Rattle.centralized_telescope.specs.inner.Source.{meant}
@@ -27,7 +27,7 @@ use Rattle.centralized_telescope.specs.core.Lists.{over}
 use Rattle.centralized_telescope.specs.inner.Visit.{tried, written, Ready, TryEnds}
 use Rattle.centralized_telescope.specs.inner.Walk.{Ended, missing, counted, find}
 use Rattle.centralized_telescope.specs.laws.BinsLaws.{length_table}
-use Rattle.centralized_telescope.specs.laws.DistinctLaws.{same_numbers_lem}
+use Rattle.centralized_telescope.specs.laws.DistinctLaws.{same_bytes_lem}
 use Rattle.centralized_telescope.specs.laws.RefusalsLaws.{refusal_number_lem}
 use Rattle.centralized_telescope.specs.laws.SourceLaws.{alone, one_readable, one_meant}
 use Rattle.centralized_telescope.specs.laws.TryLaws.{length_bin_list}
@@ -93,15 +93,15 @@ module _ (n R : ℕ) (es : List Element) where
   filled_front own now e = rw e (take_at (table_of n bins) (drop (3 * n + 1) own) (3 * n + 1) (length_table n bins few))
 
   compared : (table own now : List ℕ) (r : Bool) → now ≡ bin_table n bins own
-      → r ≡ same_numbers (take (3 * n + 1) table) (take (3 * n + 1) now) → r ≡ table_right n R es table
+      → r ≡ same_bytes (take (3 * n + 1) table) (take (3 * n + 1) now) → r ≡ table_right n R es table
   unfolding table_right
-  compared table own now r e s = s ∙ ap (same_numbers (take (3 * n + 1) table)) (filled_front own now e)
+  compared table own now r e s = s ∙ ap (same_bytes (take (3 * n + 1) table)) (filled_front own now e)
 
   pub right_is : (table : List ℕ) → table_right n R es table ≡ true → table ≡ table_of n bins ++ drop (3 * n + 1) table
   unfolding table_right
   right_is table t =
       sym (take-append-drop (3 * n + 1) table)
-      ∙ ap (λ (l : List ℕ). l ++ drop (3 * n + 1) table) (same_numbers_lem (take (3 * n + 1) table) (table_of n bins) t)
+      ∙ ap (λ (l : List ℕ). l ++ drop (3 * n + 1) table) (same_bytes_lem (take (3 * n + 1) table) (table_of n bins) t)
 
 -- a table that was filled from the list alone
 module _ (lent : Lent) (n R : ℕ) (own now : List ℕ) (e : now ≡ bin_table n (bin_list n R (take (2 * n) (meant (alone lent)))) own) where
@@ -113,7 +113,7 @@ module _ (lent : Lent) (n R : ℕ) (own now : List ℕ) (e : now ≡ bin_table n
       ap length (filled_front n R (elements lent) own now filled)
       ∙ length_table n (bins n R (elements lent)) (few n R (elements lent))
 
-  pub compared_alone : (table : List ℕ) (r : Bool) → r ≡ same_numbers (take (3 * n + 1) table) (take (3 * n + 1) now)
+  pub compared_alone : (table : List ℕ) (r : Bool) → r ≡ same_bytes (take (3 * n + 1) table) (take (3 * n + 1) now)
       → r ≡ table_right n R (elements lent) table
   compared_alone table r s = compared n R (elements lent) table own now r filled s
 

@@ -8,7 +8,7 @@ use Rattle.centralized_telescope.specs.declared.params.Params.{Params}
 use Rattle.centralized_telescope.specs.core.Refusals.{refusal_number}
 use Rattle.centralized_telescope.specs.core.Elements.{elements, Lent}
 use Rattle.centralized_telescope.specs.core.Prover.{refused, prover_refusal, proved}
-use Rattle.centralized_telescope.specs.later.Words.{same_numbers}
+use Rattle.centralized_telescope.specs.later.Words.{same_bytes}
 use Rattle.centralized_telescope.specs.later.Prepare.{run_digest, prepared, commit_refusal, committed}
 use Rattle.centralized_telescope.specs.laws.RefusalsLaws.{refusal_number_lem}
 use Rattle.centralized_telescope.proofs.ProveAnswers.{run_served}
@@ -41,7 +41,7 @@ module _ (p : Params) (digest : List ℕ) (lent : Lent) (places table : List ℕ
   met = prover_refusal p lent (length places) (length table)
 
   abbrev same : Bool
-  same = same_numbers digest (run_digest p (elements lent))
+  same = same_bytes digest (run_digest p (elements lent))
 
   checks_first : (k : ℕ) → (k ≡ 0 → ⊥) → met ≡ k → commit_refusal p digest lent (length places) (length table) ≡ k
   unfolding commit_refusal

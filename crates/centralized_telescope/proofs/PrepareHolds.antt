@@ -6,12 +6,12 @@ use Rattle.sampling.specs.core.Fips180.{sha256}
 use Rattle.centralized_telescope.specs.declared.params.Params.{Params}
 use Rattle.centralized_telescope.specs.core.Elements.{Element, elements, Lent}
 use Rattle.centralized_telescope.specs.core.Prover.{refused, prover_refusal, proved}
-use Rattle.centralized_telescope.specs.later.Words.{same_numbers}
+use Rattle.centralized_telescope.specs.later.Words.{same_bytes}
 use Rattle.centralized_telescope.specs.later.ElementBytes.{elements_bytes}
 use Rattle.centralized_telescope.specs.later.Prepare.{run_head, run_bytes, run_digest, prepared, committed}
 use Rattle.centralized_telescope.specs.later.PrepareClaims.{PairProves, IsRun, SameRun, RunsTold, Collide, ChangeNoticed}
 use Rattle.centralized_telescope.specs.laws.ParamsLaws.{lawful}
-use Rattle.centralized_telescope.specs.laws.DistinctLaws.{numbers_same, same_numbers_lem}
+use Rattle.centralized_telescope.specs.laws.DistinctLaws.{bytes_same, same_bytes_lem}
 use Rattle.centralized_telescope.specs.laws.ElementsLaws.{accepted, length_elements, few_elements}
 use Rattle.centralized_telescope.specs.laws.TicketsLaws.{elements_complete}
 use Rattle.centralized_telescope.specs.laws.PrepareLaws.{bytes_joined, field_same, field_behind, run_few}
@@ -100,8 +100,8 @@ pair_proves p lent lent' places_len table_len places table N E = go (eqb met 0) 
     digest : List ℕ
     digest = (prepared p lent places_len table_len).1
 
-    same : same_numbers digest (run_digest p (elements lent')) ≡ true
-    same = rw (given p lent places_len table_len N, E) (numbers_same (run_digest p (elements lent)))
+    same : same_bytes digest (run_digest p (elements lent')) ≡ true
+    same = rw (given p lent places_len table_len N, E) (bytes_same (run_digest p (elements lent)))
 
     go : (t : Bool) → eqb met 0 ≡ t → committed p digest lent' places table ≡ proved p lent' places table
     go true e = commit_served p digest lent' places table (eqb-true met 0 e) same
@@ -116,15 +116,15 @@ unfolding run_digest
 hashes_same p es p' es' e = e
 
 pub change_noticed : ChangeNoticed
-change_noticed p lent places_len table_len p' lent' places table I I' N C other = go (same_numbers digest (run_digest p' (elements lent'))) refl
+change_noticed p lent places_len table_len p' lent' places table I I' N C other = go (same_bytes digest (run_digest p' (elements lent'))) refl
   where
     digest : List ℕ
     digest = (prepared p lent places_len table_len).1
 
-    go : (t : Bool) → same_numbers digest (run_digest p' (elements lent')) ≡ t
+    go : (t : Bool) → same_bytes digest (run_digest p' (elements lent')) ≡ t
         → (committed p' digest lent' places table ≡ refused 46 places table)
         ⊎ Collide (run_bytes p (elements lent)) (run_bytes p' (elements lent'))
     go false e = inl (commit_changed p' digest lent' places table C e)
     go true e =
-        let hashes = sym (given p lent places_len table_len N) ∙ same_numbers_lem digest (run_digest p' (elements lent')) e in
+        let hashes = sym (given p lent places_len table_len N) ∙ same_bytes_lem digest (run_digest p' (elements lent')) e in
         inr (λ b. other (runs_same p lent p' lent' I I' b), hashes_same p (elements lent) p' (elements lent') hashes)

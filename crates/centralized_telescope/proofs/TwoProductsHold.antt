@@ -12,7 +12,7 @@ use Rattle.centralized_telescope.specs.core.Search.{bins_of, K, try_count, try_f
 use Rattle.centralized_telescope.specs.core.Prover.{Proved, table_after, answered, by_search, prover_refusal, proved}
 use Rattle.centralized_telescope.specs.core.Demand3.{Served}
 use Rattle.centralized_telescope.specs.laws.BinsLaws.{length_table}
-use Rattle.centralized_telescope.specs.laws.DistinctLaws.{numbers_same}
+use Rattle.centralized_telescope.specs.laws.DistinctLaws.{bytes_same}
 use Rattle.centralized_telescope.specs.later.TwoProducts.{table_right, party_refusal, tried_alone}
 use Rattle.centralized_telescope.specs.later.TwoProductsClaims.{PartiesApart, OfTry, TryGuaranteed, LastAlone, LastAloneClaim}
 use Rattle.centralized_telescope.proofs.TryFinds.{K_number, finds_first, finds_none, finds_none_below}
@@ -89,7 +89,7 @@ module _ (p : Params) (es : List Element) (R : ℕ) (made : 1 ≤ R) (table : Li
 
   left_right : table_right n R es left ≡ true
   unfolding table_right
-  left_right = rw (filled_front n R es table left left_is) (numbers_same (table_of n bins))
+  left_right = rw (filled_front n R es table left left_is) (bytes_same (table_of n bins))
 
   left_enough : 3 * n + 1 ≤ length left
   unfolding bin_table

@@ -1,6 +1,6 @@
 // Blocks of 512 bytes: 504 of body, then the first 8 bytes of the body's SHA-256. What the bodies hold is not looked at here.
 ghost use Rattle.std.specs.Prelude.{◌≡◌, ◌+◌, ◌*◌, ◌/◌, ◌%◌, ◌≤◌, ◌++◌, length, take, drop, replicate};
-ghost use Rattle.centralized_telescope.specs.later.Words.{same_numbers};
+ghost use Rattle.centralized_telescope.specs.later.Words.{same_bytes};
 ghost use Rattle.centralized_telescope.specs.later.Blocks.{body_check, sealed, bodies_of, checks_hold, damaged, block_bytes, body_bytes};
 ghost use Rattle.centralized_telescope.specs.later.Blocks.{check_bytes, with_check};
 
@@ -73,7 +73,7 @@ pub fn seal(out: &mut [u8], n: usize)
 // Whether two strings of one length hold the same bytes.
 pub fn same_bytes(a: &[u8], b: &[u8]) -> bool
     requires { length a.now ≡ length b.now }
-    ensures { result ≡ same_numbers a.now b.now }
+    ensures { result ≡ same_bytes a.now b.now }
 {
     let mut i = 0;
     while i < a.len() {
@@ -88,7 +88,7 @@ pub fn same_bytes(a: &[u8], b: &[u8]) -> bool
 // Whether the k-th block has the check of its body.
 fn check_holds(ticket: &[u8], k: usize) -> bool
     requires { block_bytes * k + block_bytes ≤ length ticket.now }
-    ensures { result ≡ same_numbers (body_check (take body_bytes (drop (block_bytes * k) ticket.now)))
+    ensures { result ≡ same_bytes (body_check (take body_bytes (drop (block_bytes * k) ticket.now)))
         (take check_bytes (drop body_bytes (drop (block_bytes * k) ticket.now))) }
 {
     let at = BLOCK_BYTES * k;

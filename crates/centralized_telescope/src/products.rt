@@ -3,7 +3,7 @@ ghost use Rattle.std.specs.Prelude.{◌≡◌, ◌+◌, ◌*◌, ◌≤◌, true
 ghost use Rattle.centralized_telescope.specs.core.Elements.{elements, list_check, lent_at_entry};
 ghost use Rattle.centralized_telescope.specs.core.Params.{checked, checked_by, max_set_size};
 ghost use Rattle.centralized_telescope.specs.core.Prover.{proved_by};
-ghost use Rattle.centralized_telescope.specs.later.Words.{same_numbers};
+ghost use Rattle.centralized_telescope.specs.later.Words.{same_bytes};
 ghost use Rattle.centralized_telescope.specs.later.TwoProducts.{table_right, by_try, both_tried, both_by};
 ghost use Rattle.centralized_telescope.specs.inner.ListReading.{lent_now};
 ghost use Rattle.centralized_telescope.specs.inner.Seeing.{early_refusal, TrueOf, PartyServed};
@@ -51,7 +51,7 @@ fn table_room() -> [u32; TABLE]
 // Whether two slices of one length hold the same numbers.
 fn same_numbers(a: &[u32], b: &[u32]) -> bool
     requires { length a.now ≡ length b.now }
-    ensures { result ≡ same_numbers a.now b.now }
+    ensures { result ≡ same_bytes a.now b.now }
 {
     let mut i = 0;
     while i < a.len() {

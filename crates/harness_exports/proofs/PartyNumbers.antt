@@ -11,7 +11,7 @@ use Rattle.centralized_telescope.specs.declared.products.TwoAnswers.{TwoAnswers}
 use Rattle.harness_exports.specs.declared.Numbers.{Numbers}
 use Rattle.harness_exports.specs.Exported.{search_numbers, parties_numbers, parties_served, exported_two_products}
 use Rattle.harness_exports.proofs.Answer.{six_set}
-use Rattle.harness_exports.proofs.ProverNumbers.{same_numbers_lem, same_places}
+use Rattle.harness_exports.proofs.ProverNumbers.{same_numbers, same_places}
 
 -- six stores
 pub parties_put : (out : List ℕ) (a b n m : Numbers) → length out ≡ 6 → a ≡ n → b ≡ m
@@ -35,7 +35,7 @@ module _ (lent : Lent) (table_retry : ℕ) (table : List ℕ) (p : Params) (R : 
   parties_served_lem h q q' s s' a first second out' e w =
       let k = (same_places a.first first table).0 in
       let k' = (same_places a.second second table).0 in
-      let n = same_numbers_lem a.first first table in
-      let n' = same_numbers_lem a.second second table in
+      let n = same_numbers a.first first table in
+      let n' = same_numbers a.second second table in
       let here : (0, first, second, out') ≡ parties_served (both_by a first second table) = cc in
       rw (eq-eqb (length out) 6 h, ← s, ← s') (here ∙ ap parties_served e)

@@ -30,11 +30,11 @@ pub with_number : (a b : ProofSearch) (k : ℕ) → k ≡ (proved_by a [] []).nu
 with_number a b k e g = rw (e, g)
 
 -- the numbers don't hang on what is lent
-pub same_numbers_lem : (a : ProofSearch) (places table : List ℕ) → search_numbers a ≡ in_numbers (proved_by a places table)
-same_numbers_lem (answer.Found R S count) places table = refl
-same_numbers_lem (answer.NotFoundInBounds count) places table = refl
-same_numbers_lem (answer.NotFound count) places table = refl
-same_numbers_lem (answer.Refused k) places table = refl
+pub same_numbers : (a : ProofSearch) (places table : List ℕ) → search_numbers a ≡ in_numbers (proved_by a places table)
+same_numbers (answer.Found R S count) places table = refl
+same_numbers (answer.NotFoundInBounds count) places table = refl
+same_numbers (answer.NotFound count) places table = refl
+same_numbers (answer.Refused k) places table = refl
 
 pub same_places : (a : ProofSearch) (places table : List ℕ)
     → (places ≡ (proved_by a places table).places) × (table ≡ (proved_by a places table).table)
@@ -51,7 +51,7 @@ pub exported_so : (s : Proved) (out : List ℕ) (a : ProofSearch) (n : Numbers) 
     → (n.number, places', table', out') ≡ exported_search s out
 exported_so s out a n places' table' out' e en eo =
     let r = proved_by a places' table' in
-    let m : n ≡ in_numbers r = en ∙ same_numbers_lem a places' table' in
+    let m : n ≡ in_numbers r = en ∙ same_numbers a places' table' in
     let k = same_places a places' table' in
     let here : ◌≡◌ {A = ℕ × List ℕ × List ℕ × List ℕ} (n.number, places', table', out')
     (r.number, r.places, r.table, with_counters (in_numbers r) out) =

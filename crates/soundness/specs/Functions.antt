@@ -2,7 +2,7 @@
 use Rattle.std.specs.Prelude.{◌≡◌, Bool, true, cond, List, [], ◌∷◌, ℕ, zero, suc, ◌+◌, ◌*◌, ◌^◌, ◌≤◌, ◌<◌, length, get_or}
 use Rattle.sampling.specs.core.BigEndian.{bytes_of}
 use Rattle.centralized_telescope.specs.core.Lists.{Each}
-use Rattle.centralized_telescope.specs.later.Words.{same_numbers}
+use Rattle.centralized_telescope.specs.later.Words.{same_bytes}
 
 -- ---- counting
 
@@ -69,5 +69,5 @@ pub record TablesAreFunctions : Type 0 where
   pub alone : (n : ℕ) (t t' : List ℕ) → IsTable how_many_digests (how_many_strings n) t → IsTable how_many_digests (how_many_strings n) t'
       → Agree n (hash_of t) (hash_of t') → t ≡ t'
   -- every table is counted, and once; there are m ^ k
-  pub once : (m k : ℕ) (t : List ℕ) → IsTable m k t → how_many_tables m k (λ (s : List ℕ). same_numbers t s) ≡ 1
+  pub once : (m k : ℕ) (t : List ℕ) → IsTable m k t → how_many_tables m k (λ (s : List ℕ). same_bytes t s) ≡ 1
   pub all : (m k : ℕ) → how_many_tables m k (λ (t : List ℕ). true) ≡ m ^ k

@@ -1,7 +1,7 @@
 -- Document 02, N1, blocks: a byte string as blocks of 512 bytes, each 504 of body and then its check.
 use Rattle.std.specs.Prelude.{ℕ, zero, suc, ◌+◌, ◌-◌, ◌*◌, ◌/◌, ◌%◌, Bool, true, not, ◌&&◌, ◌||◌, List, [], ◌++◌, length, take, drop, replicate, ◌==◌}
 use Rattle.sampling.specs.core.Fips180.{sha256}
-use Rattle.centralized_telescope.specs.later.Words.{same_numbers}
+use Rattle.centralized_telescope.specs.later.Words.{same_bytes}
 
 -- 02, N1: the bytes of a block, of its body, and of the check behind that
 abbrev pub block_bytes : ℕ
@@ -57,7 +57,7 @@ bodies_of t = bodies (length t / block_bytes) t
 -- each of n blocks ends with the check of its body
 unfoldable pub checks_hold : ℕ → List ℕ → Bool
 checks_hold zero t = true
-checks_hold (suc n) t = same_numbers (body_check (take body_bytes t)) (take check_bytes (drop body_bytes t)) && checks_hold n (drop block_bytes t)
+checks_hold (suc n) t = same_bytes (body_check (take body_bytes t)) (take check_bytes (drop body_bytes t)) && checks_hold n (drop block_bytes t)
 
 -- 02, N1, the reader's 40: the size isn't whole blocks, or a block's check fails
 unfoldable pub damaged : List ℕ → Bool

@@ -1,7 +1,7 @@
 -- Document 01, Distinctness, as 02's N2 has it read: whether no element of a list stands at two of its places.
 use Rattle.std.specs.Prelude.{◌≡◌, ℕ, ◌<◌, Bool, true, false, cond, not, ◌&&◌, ◌↔◌, List, [], ◌∷◌, length, ◌==◌, ◌≢◌}
 use Rattle.centralized_telescope.specs.core.Lists.{some_of}
-use Rattle.centralized_telescope.specs.later.Words.{same_numbers, mark_of, number_of}
+use Rattle.centralized_telescope.specs.later.Words.{same_bytes, mark_of, number_of}
 use Rattle.centralized_telescope.specs.core.Refusals.{refusal_number}
 use Rattle.centralized_telescope.specs.core.Elements.{Element, elements, element_at, list_check, Lent}
 use Rattle.centralized_telescope.specs.declared.misc.Distinctness.{Distinctness}
@@ -16,7 +16,7 @@ Distinct es = (i j : ℕ) → i < j → j < length es → element_at es i ≢ el
 -- 02, N2: data and mark agree and, where the mark is 1, the index
 unfoldable pub same_element : Element → Element → Bool
 same_element e f =
-    same_numbers e.bytes f.bytes && (mark_of e.index == mark_of f.index && number_of e.index == number_of f.index)
+    same_bytes e.bytes f.bytes && (mark_of e.index == mark_of f.index && number_of e.index == number_of f.index)
 
 -- none is the same as one behind it
 unfoldable pub none_equal : List Element → Bool

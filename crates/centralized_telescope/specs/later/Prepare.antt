@@ -8,7 +8,7 @@ use Rattle.centralized_telescope.specs.declared.params.Params.{Params}
 use Rattle.centralized_telescope.specs.declared.preparing.Prepared.{Prepared}
 use Rattle.centralized_telescope.specs.core.Elements.{Element, elements, Lent}
 use Rattle.centralized_telescope.specs.core.Prover.{Proved, refused, by_search, prover_refusal}
-use Rattle.centralized_telescope.specs.later.Words.{same_numbers}
+use Rattle.centralized_telescope.specs.later.Words.{same_bytes}
 use Rattle.centralized_telescope.specs.later.ElementBytes.{elements_bytes}
 
 -- ---- what is hashed
@@ -45,7 +45,7 @@ prepared_by r = (r.number, r.digest)
 
 unfoldable pub commit_refusal : Params → List ℕ → Lent → ℕ → ℕ → ℕ
 commit_refusal p digest lent places_len table_len =
-    first_number (prover_refusal p lent places_len table_len ∷ line 46 (not (same_numbers digest (run_digest p (elements lent)))) ∷ [])
+    first_number (prover_refusal p lent places_len table_len ∷ line 46 (not (same_bytes digest (run_digest p (elements lent)))) ∷ [])
 
 unfoldable pub committed : Params → List ℕ → Lent → List ℕ → List ℕ → Proved
 committed p digest lent places table =

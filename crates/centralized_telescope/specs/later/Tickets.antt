@@ -9,7 +9,7 @@ use Rattle.centralized_telescope.specs.declared.ticket.TicketProof.{TicketProof}
 use Rattle.centralized_telescope.specs.declared.ticket.TicketProof.TheVariants as proof_answer
 use Rattle.centralized_telescope.specs.core.Lists.{Each, some_of, over}
 use Rattle.sampling.specs.core.FirstNumber.{line, first_number}
-use Rattle.centralized_telescope.specs.later.Words.{same_numbers, number_of}
+use Rattle.centralized_telescope.specs.later.Words.{same_bytes, number_of}
 use Rattle.centralized_telescope.specs.core.Refusals.{refusal_number}
 use Rattle.centralized_telescope.specs.core.Elements.{Element, index_bytes, index_of, elements, list_check, Lent, max_data_bytes}
 use Rattle.centralized_telescope.specs.core.Elements.{max_elements}
@@ -93,7 +93,7 @@ over_limits es = nat_lt max_elements (length es) || some_of (λ (e : Element). l
 unfoldable pub is_ticket : List ℕ → Bool
 is_ticket t =
     let b : List ℕ = bodies_of t in
-    not (over_limits (proof_in b)) && same_numbers (ticket (retry_in b) (search_in b) (proof_in b)) t
+    not (over_limits (proof_in b)) && same_bytes (ticket (retry_in b) (search_in b) (proof_in b)) t
 
 -- ---- the writer's answer: its number and the number of blocks; and the lent buffer afterwards
 

@@ -8,11 +8,11 @@ use Rattle.centralized_telescope.specs.core.Bins.{table_of}
 use Rattle.centralized_telescope.specs.core.Chains.{try_of}
 use Rattle.centralized_telescope.specs.core.Search.{bin_list, try_count, try_finds}
 use Rattle.centralized_telescope.specs.core.Prover.{Proved, refused, answered, proved_by, prover_refusal}
-use Rattle.centralized_telescope.specs.later.Words.{same_numbers}
+use Rattle.centralized_telescope.specs.later.Words.{same_bytes}
 
 -- the table's first 3 × n + 1 numbers are 01's for these elements, n bins and the retry counter R
 unfoldable pub table_right : ℕ → ℕ → List Element → List ℕ → Bool
-table_right n R es table = same_numbers (take (3 * n + 1) table) (table_of n (bin_list n R (take (2 * n) es)))
+table_right n R es table = same_bytes (take (3 * n + 1) table) (table_of n (bin_list n R (take (2 * n) es)))
 
 -- the answer of the try with the retry counter R, as of a search that makes this one try; the table is only read
 abbrev pub by_try : Params → List Element → ℕ → List ℕ → List ℕ → Proved

@@ -6,11 +6,11 @@ use denote.Triple.Both.{Both}
 use Rattle.centralized_telescope.specs.core.Elements.{Lent, lent_of}
 
 -- two lists hold the same numbers
-unfoldable pub same_numbers : List ℕ → List ℕ → Bool
-same_numbers [] [] = true
-same_numbers [] (y ∷ ys) = false
-same_numbers (x ∷ xs) [] = false
-same_numbers (x ∷ xs) (y ∷ ys) = x == y && same_numbers xs ys
+unfoldable pub same_bytes : List ℕ → List ℕ → Bool
+same_bytes [] [] = true
+same_bytes [] (y ∷ ys) = false
+same_bytes (x ∷ xs) [] = false
+same_bytes (x ∷ xs) (y ∷ ys) = x == y && same_bytes xs ys
 
 -- an index as it is lent: its mark and its number, both 0 where there is none
 abbrev pub mark_of : Option ℕ → ℕ

@@ -6,8 +6,8 @@ use Rattle.std.proofs.lemmas.List.{length-replicate, take-append-le, drop-append
 use Rattle.sampling.specs.laws.HashLaws.{length_sha256}
 use Rattle.centralized_telescope.specs.laws.TestLaws.{both, neither}
 use Rattle.centralized_telescope.specs.laws.BytesLaws.{Bytes, bytes_take, bytes_drop, bytes_append}
-use Rattle.centralized_telescope.specs.laws.DistinctLaws.{numbers_same, same_numbers_lem}
-use Rattle.centralized_telescope.specs.later.Words.{same_numbers}
+use Rattle.centralized_telescope.specs.laws.DistinctLaws.{bytes_same, same_bytes_lem}
+use Rattle.centralized_telescope.specs.later.Words.{same_bytes}
 use Rattle.centralized_telescope.specs.later.Blocks.{body_check, block_count, filled, sealed, blocks, bodies, bodies_of, checks_hold}
 use Rattle.centralized_telescope.specs.later.Blocks.{damaged, block_bytes, body_bytes, check_bytes, with_check}
 
@@ -101,7 +101,7 @@ checks_sealed (suc n) b h =
     rw (
       body_there b (omega arith) rest,
       check_there b (omega arith) rest,
-      numbers_same (body_check (take body_bytes b)),
+      bytes_same (body_check (take body_bytes b)),
       rest_there b (omega arith) rest,
     )
     (checks_sealed n (drop body_bytes b) (omega (arith, length-drop body_bytes b)))
@@ -111,12 +111,12 @@ unfolding checks_hold sealed bodies
 sealed_bodies zero [] l e = refl
 sealed_bodies zero (x ∷ t) l e = absurd (omega arith)
 sealed_bodies (suc n) t l e =
-    let h = both (same_numbers (body_check (take body_bytes t)) (take check_bytes (drop body_bytes t))) e in
+    let h = both (same_bytes (body_check (take body_bytes t)) (take check_bytes (drop body_bytes t))) e in
     let k : length (take body_bytes t) ≡ body_bytes = length-take-le body_bytes t (omega arith) in
     rw (
       take_at (take body_bytes t) (bodies n (drop block_bytes t)) body_bytes k,
       drop_at (take body_bytes t) (bodies n (drop block_bytes t)) body_bytes k,
-      same_numbers_lem (body_check (take body_bytes t)) (take check_bytes (drop body_bytes t)) h.0,
+      same_bytes_lem (body_check (take body_bytes t)) (take check_bytes (drop body_bytes t)) h.0,
       sealed_bodies n (drop block_bytes t) (omega (arith, length-drop block_bytes t)) h.1,
       ← take-add body_bytes check_bytes t,
     )

@@ -4,7 +4,7 @@ use Rattle.std.proofs.Common.{arith, eq-eqb, eqb-true}
 use Rattle.std.proofs.lemmas.Bool.{not-true}
 use Rattle.centralized_telescope.specs.laws.TestLaws.{not_both, both, neither}
 use Rattle.centralized_telescope.specs.core.Elements.{Element, element_at}
-use Rattle.centralized_telescope.specs.later.Words.{mark_of, number_of, same_numbers}
+use Rattle.centralized_telescope.specs.later.Words.{mark_of, number_of, same_bytes}
 use Rattle.centralized_telescope.specs.laws.ElementsLaws.{same_parts}
 use Rattle.centralized_telescope.specs.laws.OrderingLaws.{index_known}
 use Rattle.centralized_telescope.specs.core.Lists.{some_of}
@@ -12,27 +12,27 @@ use Rattle.centralized_telescope.specs.later.Distinct.{Distinct, same_element, n
 
 -- ---- lists of numbers
 
-pub numbers_same : (xs : List ℕ) → same_numbers xs xs ≡ true
-unfolding same_numbers
-numbers_same [] = refl
-numbers_same (x ∷ xs) = rw (eq-eqb x x refl) (numbers_same xs)
+pub bytes_same : (xs : List ℕ) → same_bytes xs xs ≡ true
+unfolding same_bytes
+bytes_same [] = refl
+bytes_same (x ∷ xs) = rw (eq-eqb x x refl) (bytes_same xs)
 
-pub same_numbers_lem : (xs ys : List ℕ) → same_numbers xs ys ≡ true → xs ≡ ys
-unfolding same_numbers
-same_numbers_lem [] [] e = refl
-same_numbers_lem [] (y ∷ ys) e = absurd (not_both e refl)
-same_numbers_lem (x ∷ xs) [] e = absurd (not_both e refl)
-same_numbers_lem (x ∷ xs) (y ∷ ys) e =
+pub same_bytes_lem : (xs ys : List ℕ) → same_bytes xs ys ≡ true → xs ≡ ys
+unfolding same_bytes
+same_bytes_lem [] [] e = refl
+same_bytes_lem [] (y ∷ ys) e = absurd (not_both e refl)
+same_bytes_lem (x ∷ xs) [] e = absurd (not_both e refl)
+same_bytes_lem (x ∷ xs) (y ∷ ys) e =
     let h = both (x == y) e in
     let p = eqb-true x y h.0 in
-    let q = same_numbers_lem xs ys h.1 in
+    let q = same_bytes_lem xs ys h.1 in
     cc
 
-pub differing : (xs ys : List ℕ) → (xs ≢ ys) → same_numbers xs ys ≡ false
-differing xs ys n = go (same_numbers xs ys) refl
+pub differing : (xs ys : List ℕ) → (xs ≢ ys) → same_bytes xs ys ≡ false
+differing xs ys n = go (same_bytes xs ys) refl
   where
-    go : (t : Bool) → same_numbers xs ys ≡ t → t ≡ false
-    go true e = absurd (n (same_numbers_lem xs ys e))
+    go : (t : Bool) → same_bytes xs ys ≡ t → t ≡ false
+    go true e = absurd (n (same_bytes_lem xs ys e))
     go false e = refl
 
 -- ---- elements
@@ -40,14 +40,14 @@ differing xs ys n = go (same_numbers xs ys) refl
 pub element_same : (e : Element) → same_element e e ≡ true
 unfolding same_element
 element_same e =
-    rw (numbers_same e.bytes, eq-eqb (mark_of e.index) (mark_of e.index) refl, eq-eqb (number_of e.index) (number_of e.index) refl)
+    rw (bytes_same e.bytes, eq-eqb (mark_of e.index) (mark_of e.index) refl, eq-eqb (number_of e.index) (number_of e.index) refl)
 
 same_element_lem : (e f : Element) → same_element e f ≡ true → e ≡ f
 unfolding same_element
 same_element_lem e f s =
-    let h = both (same_numbers e.bytes f.bytes) s in
+    let h = both (same_bytes e.bytes f.bytes) s in
     let k = both (mark_of e.index == mark_of f.index) h.1 in
-    same_parts (same_numbers_lem e.bytes f.bytes h.0) (index_known e.index f.index (eqb-true _ _ k.0) (eqb-true _ _ k.1))
+    same_parts (same_bytes_lem e.bytes f.bytes h.0) (index_known e.index f.index (eqb-true _ _ k.0) (eqb-true _ _ k.1))
 
 other_element : (e f : Element) → (e ≢ f) → same_element e f ≡ false
 other_element e f n = go (same_element e f) refl

@@ -10,7 +10,7 @@ use Rattle.sampling.specs.core.BigEndian.{big_endian, bytes_of}
 use Rattle.sampling.specs.laws.BigEndianLaws.{length_bytes_of, big_endian_append}
 use Rattle.centralized_telescope.specs.laws.TestLaws.{not_both, refuted, neither, both}
 use Rattle.centralized_telescope.specs.laws.BytesLaws.{Bytes, bytes_drop, big_endian_below, bytes_again, number_front, number_found}
-use Rattle.centralized_telescope.specs.laws.DistinctLaws.{numbers_same, same_numbers_lem}
+use Rattle.centralized_telescope.specs.laws.DistinctLaws.{bytes_same, same_bytes_lem}
 use Rattle.centralized_telescope.specs.laws.ProofListLaws.{Short}
 use Rattle.centralized_telescope.specs.laws.BlocksLaws.{length_bodies, bodies_bytes, sealed_bodies, length_blocks, count_blocks}
 use Rattle.centralized_telescope.specs.laws.BlocksLaws.{bodies_blocks, undamaged}
@@ -164,7 +164,7 @@ pub is_ticket_lem : (R S : ℕ) (es : List Element) → ProofFits R S es → is_
 unfolding is_ticket
 is_ticket_lem R S es fits =
     let r = ticket_reads R S es fits in
-    rw (r.proof, le-ltb max_elements (length es) fits.few, none_over es fits.each, r.retry, r.search, numbers_same (ticket R S es))
+    rw (r.proof, le-ltb max_elements (length es) fits.few, none_over es fits.each, r.retry, r.search, bytes_same (ticket R S es))
 
 pub number_small : (m v k : ℕ) → v < k → number_of (index_of m v) < k
 number_small m v k h = go (m == 1)
@@ -202,7 +202,7 @@ ticket_said t e =
     record {
       few = ltb-false max_elements (length (proof_in b)) l.0;
       none_long = l.1;
-      same = sym (same_numbers_lem (ticket (retry_in b) (search_in b) (proof_in b)) t h.1);
+      same = sym (same_bytes_lem (ticket (retry_in b) (search_in b) (proof_in b)) t h.1);
     }
 
 -- ---- the number of blocks that is stated
@@ -350,7 +350,7 @@ module _ (t : List ℕ) (B : Bytes t) where
         ∙ rw (← again) (sealed_bodies (length t / block_bytes) t w.size w.checks) in
         rw (
           same,
-          numbers_same t,
+          bytes_same t,
           all_short (count_in b) (elements_part b) L,
           le-ltb max_elements (length es) (omega (arith, elements_count (count_in b) (elements_part b))),
         )

@@ -4,7 +4,7 @@ use Rattle.std.proofs.Common.{sym, ◌∙◌, ap, subst, mul-one, one-mul, zero-
 use Rattle.sampling.specs.core.BigEndian.{big_endian, bytes_of}
 use Rattle.sampling.specs.laws.BigEndianLaws.{read_back}
 use Rattle.centralized_telescope.specs.core.Lists.{Each}
-use Rattle.centralized_telescope.specs.later.Words.{same_numbers}
+use Rattle.centralized_telescope.specs.later.Words.{same_bytes}
 use Rattle.centralized_telescope.specs.laws.BytesLaws.{each_bytes, big_endian_below, bytes_again}
 use Rattle.soundness.specs.Functions.{sum_tables, one_if, how_many_tables, OfBytes, how_many_strings, place_of, how_many_digests, hash_of}
 use Rattle.soundness.specs.Functions.{IsDigest, IsTable, Agree, TablesAreFunctions}
@@ -93,17 +93,17 @@ just_one m v l =
     let it : one_if (eqb v v) ≡ 1 = ap one_if (eq-eqb v v refl) in
     omega arith
 
-counted_once : (m k : ℕ) (t : List ℕ) → IsTable m k t → how_many_tables m k (λ (s : List ℕ). same_numbers t s) ≡ 1
-unfolding Each sum_tables same_numbers
+counted_once : (m k : ℕ) (t : List ℕ) → IsTable m k t → how_many_tables m k (λ (s : List ℕ). same_bytes t s) ≡ 1
+unfolding Each sum_tables same_bytes
 counted_once m zero [] T = refl
 counted_once m zero (v ∷ t) T = absurd (let l = T.0 in omega arith)
 counted_once m (suc k) [] T = absurd (let l = T.0 in omega arith)
 counted_once m (suc k) (v ∷ t) T =
     let rest = counted_once m k t (let l = T.0 in omega arith, T.1.1) in
-    sum_same m (λ x. sum_tables m k (λ s. one_if (eqb v x && same_numbers t s))) (λ x. one_if (eqb v x)) (λ x _.
-    tables_same m k (λ s. one_if (eqb v x && same_numbers t s)) (λ s. one_if (eqb v x) * one_if (same_numbers t s))
-    (λ s. one_and (eqb v x) (same_numbers t s))
-    ∙ (tables_times m k (one_if (eqb v x)) (λ s. one_if (same_numbers t s))
+    sum_same m (λ x. sum_tables m k (λ s. one_if (eqb v x && same_bytes t s))) (λ x. one_if (eqb v x)) (λ x _.
+    tables_same m k (λ s. one_if (eqb v x && same_bytes t s)) (λ s. one_if (eqb v x) * one_if (same_bytes t s))
+    (λ s. one_and (eqb v x) (same_bytes t s))
+    ∙ (tables_times m k (one_if (eqb v x)) (λ s. one_if (same_bytes t s))
     ∙ (ap (λ (z : ℕ). one_if (eqb v x) * z) rest ∙ mul-one (one_if (eqb v x)))))
     ∙ just_one m v T.1.0
 

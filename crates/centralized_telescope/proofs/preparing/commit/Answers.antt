@@ -3,7 +3,7 @@ use Rattle.std.proofs.Common.{◌≡◌, length, sym, ap, ◌∙◌}
 use Rattle.centralized_telescope.specs.core.Params.{checked_by}
 use Rattle.centralized_telescope.specs.core.Elements.{elements, Lent}
 use Rattle.centralized_telescope.specs.core.Prover.{prover_refusal}
-use Rattle.centralized_telescope.specs.later.Words.{same_numbers}
+use Rattle.centralized_telescope.specs.later.Words.{same_bytes}
 use Rattle.centralized_telescope.specs.later.Prepare.{run_digest}
 use Rattle.centralized_telescope.specs.inner.ListReading.{lent_now}
 use Rattle.centralized_telescope.proofs.ProveAnswers.{run_lawful}
@@ -41,8 +41,8 @@ none_refused_2 s = sym s.check_run.ensures ∙ ap checked_by s.in-Lawful.is
 
 -- what the comparison says of the two digests
 compares : (s : goal.Then-not-same_bytes)
-    → (let o = s in s.same_bytes.result ≡ same_numbers o.args.digest (run_digest o.args.p (elements (lent_3 o))))
-compares s = s.same_bytes.ensures ∙ ap (same_numbers s.args.digest) s.run_digest-again.ensures
+    → (let o = s in s.same_bytes.result ≡ same_bytes o.args.digest (run_digest o.args.p (elements (lent_3 o))))
+compares s = s.same_bytes.ensures ∙ ap (same_bytes s.args.digest) s.run_digest-again.ensures
 
 pub returns-then-not-same_bytes : goal.returns-then-not-same_bytes
 returns-then-not-same_bytes c =
@@ -60,8 +60,8 @@ none_refused_3 : (s : goal.After-slice_known-4-1)
 none_refused_3 s = sym s.check_run.ensures ∙ ap checked_by s.in-Lawful.is
 
 compares_2 : (s : goal.After-slice_known-4-1)
-    → (let o = s in s.same_bytes.result ≡ same_numbers o.args.digest (run_digest o.args.p (elements (lent_4 o))))
-compares_2 s = s.same_bytes.ensures ∙ ap (same_numbers s.args.digest) s.run_digest-again.ensures
+    → (let o = s in s.same_bytes.result ≡ same_bytes o.args.digest (run_digest o.args.p (elements (lent_4 o))))
+compares_2 s = s.same_bytes.ensures ∙ ap (same_bytes s.args.digest) s.run_digest-again.ensures
 
 pub returns : goal.returns
 returns c =

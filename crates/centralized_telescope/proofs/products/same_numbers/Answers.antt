@@ -1,4 +1,4 @@
--- `same_numbers`: what the numbers from i on say is what all say.
+-- `same_bytes`: what the numbers from i on say is what all say.
 use Rattle.std.proofs.Common.{sym, refl, ◌∙◌, arith, rules}
 use Rattle.centralized_telescope.proofs.BlockReading.{numbers_done, numbers_differ, numbers_agree}
 use Rattle.centralized_telescope.proofs.products.same_numbers.Goals as goal
