@@ -30,7 +30,7 @@ same_numbers-requires c =
       filled_long (lent o) o.args.n o.args.retry.0 _ _ s.fill_table.ensures,
     )
 
-abbrev lent_2 : goal.After-same_bytes → Lent
+abbrev lent_2 : goal.After-same_numbers → Lent
 lent_2 s = let a = s.args in lent_now a.«data» a.ends a.marks a.indexes
 
 pub returns : goal.returns
