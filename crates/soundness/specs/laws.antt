@@ -6,8 +6,4 @@ pub mod PlaceLaws
 pub mod InputLaws
 pub mod ChainLaws
 pub mod ShareLaws
-pub mod GreenLaws
-pub mod ExampleLaws
-pub mod FigureLaws
-pub mod OursLaws
 pub mod FunctionLaws

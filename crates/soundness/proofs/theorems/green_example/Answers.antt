@@ -1,5 +1,5 @@
 -- `green_example`: the theorem.
-use Rattle.soundness.specs.laws.FigureLaws.{green_example}
+use Rattle.soundness.proofs.FigureLaws.{green_example}
 use Rattle.soundness.proofs.theorems.green_example.Goals as goal
 
 pub returns : goal.returns

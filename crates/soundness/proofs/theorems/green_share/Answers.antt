@@ -1,5 +1,5 @@
 -- `green_share`: the theorem.
-use Rattle.soundness.specs.laws.GreenLaws.{green_share}
+use Rattle.soundness.proofs.GreenLaws.{green_share}
 use Rattle.soundness.proofs.theorems.green_share.Goals as goal
 
 pub returns : goal.returns

@@ -1,5 +1,5 @@
 -- `made_by_calls`: the theorem.
-use Rattle.soundness.specs.laws.FigureLaws.{made_by_calls}
+use Rattle.soundness.proofs.FigureLaws.{made_by_calls}
 use Rattle.soundness.proofs.theorems.made_by_calls.Goals as goal
 
 pub returns : goal.returns

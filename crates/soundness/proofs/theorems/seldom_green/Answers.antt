@@ -1,6 +1,6 @@
 -- `seldom_green`: the theorem.
-use Rattle.soundness.specs.laws.FigureLaws.{up_to_207, up_to_204}
-use Rattle.soundness.specs.laws.OursLaws.{verdict_same}
+use Rattle.soundness.proofs.FigureLaws.{up_to_207, up_to_204}
+use Rattle.soundness.proofs.OursLaws.{verdict_same}
 use Rattle.soundness.proofs.theorems.seldom_green.Goals as goal
 
 pub returns : goal.returns

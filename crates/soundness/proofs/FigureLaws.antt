@@ -19,8 +19,8 @@ use Rattle.centralized_telescope.specs.laws.ProofSizeLaws.{Ranges, ranges}
 use Rattle.centralized_telescope.specs.laws.SmallCaseLaws.{proof_size_refused, completeness_refused, settings_given}
 use Rattle.soundness.specs.Green.{how_many_functions, Made, SeldomBy, MadeByCalls}
 use Rattle.soundness.specs.Green.{example_settings, GreenExample}
-use Rattle.soundness.specs.laws.GreenLaws.{green_share}
-use Rattle.soundness.specs.laws.ExampleLaws.{zeros_accepted}
+use Rattle.soundness.proofs.GreenLaws.{green_share}
+use Rattle.soundness.proofs.ExampleLaws.{zeros_accepted}
 
 -- ---- search_width is at most 80 × 1,024, and times X at most 5 × 2^128: computed for each u from 1 to 1,024
 
