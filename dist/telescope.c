@@ -239,21 +239,25 @@ static uint32_t leading_zeros(uint64_t x, uint32_t width) {
     return n;
 }
 
-/* core::slice::copy_from_slice */
-static void core_slice_copy_from_slice(struct slice l1, struct slice l2) {
+/* sampling::copying::copy_over */
+static void sampling_copying_copy_over(struct slice l1, struct slice l2) {
     uint64_t l3;
-    uint8_t l4;
-    unsigned char *l5;
+    uint64_t l4;
+    uint8_t l5;
     unsigned char *l6;
+    uint8_t l7;
+    unsigned char *l8;
     l3 = UINT64_C(0);
     for (;;) {
-        l4 = (uint8_t)(l3 < l2.f1);
-        if (!l4) {
+        l4 = l1.f1;
+        l5 = (uint8_t)(l3 < l4);
+        if (!l5) {
             goto done_1;
         }
-        l5 = l1.f0 + (size_t)l3;
-        l6 = l2.f0 + (size_t)l3;
-        (*(uint8_t *)l5) = (*(uint8_t *)l6);
+        l6 = l1.f0 + (size_t)l3;
+        l7 = (*(uint8_t *)l6);
+        l8 = l2.f0 + (size_t)l3;
+        (*(uint8_t *)l8) = l7;
         l3 = (uint64_t)(l3 + UINT64_C(1));
     }
     done_1:;
@@ -274,7 +278,7 @@ static struct array_16_uint8_t sampling_exports_seed_of(struct slice l1) {
     }
     l4 = (unsigned char *)&l2;
     l5 = (struct slice){.f0 = l4, .f1 = UINT64_C(16)};
-    core_slice_copy_from_slice(l5, l1);
+    sampling_copying_copy_over(l1, l5);
     l0 = l2;
     return l0;
 }
@@ -1123,7 +1127,7 @@ static struct array_128_uint8_t sampling_sha256_with_string(struct array_128_uin
     l10 = (uint64_t)(l7 - l2);
     l11 = l9;
     l12 = (struct slice){.f0 = l11, .f1 = l10};
-    core_slice_copy_from_slice(l12, l3);
+    sampling_copying_copy_over(l3, l12);
     l0 = l4;
     return l0;
 }
@@ -1847,7 +1851,7 @@ static struct array_64_uint8_t sampling_sha256_with_bytes(struct array_64_uint8_
     l10 = (uint64_t)(l7 - l2);
     l11 = l9;
     l12 = (struct slice){.f0 = l11, .f1 = l10};
-    core_slice_copy_from_slice(l12, l3);
+    sampling_copying_copy_over(l3, l12);
     l0 = l4;
     return l0;
 }
@@ -2199,11 +2203,11 @@ static struct array_16_uint8_t centralized_telescope_round_first_half(struct arr
         for (i = 0; i < 16; i++)
             l3.a[i] = value;
     }
-    l5 = (unsigned char *)&l3;
+    l5 = (unsigned char *)&l2;
     l6 = (struct slice){.f0 = l5, .f1 = UINT64_C(16)};
-    l7 = (unsigned char *)&l2;
+    l7 = (unsigned char *)&l3;
     l8 = (struct slice){.f0 = l7, .f1 = UINT64_C(16)};
-    core_slice_copy_from_slice(l6, l8);
+    sampling_copying_copy_over(l6, l8);
     l0 = l3;
     return l0;
 }

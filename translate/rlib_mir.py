@@ -8,30 +8,12 @@ Nothing is added or left out but what the logic gives no meaning: names of lifet
 statement before its parts, and a place, a value or a type is a word or an object with one key, its form; in the text each is a list in
 parentheses. The names of forms are those of mir_to_c.py's head.
 
-A generic function is printed only at types that CALLED_AT has: its text there is written by hand, since the library's own goes through
-closures. What else is generic, or of a form that isn't known here, ends the run with a message.
+What is generic, or of a form that isn't known here, ends the run with a message.
 """
 import json
 import sys
 
 from mir import Stop
-
-U8_SLICE = '(tyStruct "&[]" (tcons (tyRef erased {} (tyInt 8)) (tcons (tyInt 64) tnil)))'
-# l0 is the result, which is nothing; l1 is written, l2 is read, l3 counts. The library asks that both are equally long.
-COPY_FROM_SLICE = f"""(fn-def "core::slice::copy_from_slice" (fnItem 0 lnil 2
-  (lcons (local tyUnit valueLocal) (lcons (local {U8_SLICE.format('mut')} valueLocal) (lcons (local {U8_SLICE.format('imm')} valueLocal)
-  (lcons (local (tyInt 64) valueLocal) (lcons (local tyBool valueLocal) (lcons (local tyPtr valueLocal) (lcons (local tyPtr valueLocal)
-  lnil)))))))
-  (seq (assign (place 3 lnil) (rvOpd (int 64 0)))
-  (seq (block (loop
-    (seq (assign (place 4 lnil) (op2 (lt unsigned) (copy (place 3 lnil)) (copy (place 2 (lcons (field 1) lnil)))))
-    (seq (if (copy (place 4 lnil)) skip (exit 1))
-    (seq (assign (place 5 lnil) (op2 offset (copy (place 1 (lcons (field 0) lnil))) (copy (place 3 lnil))))
-    (seq (assign (place 6 lnil) (op2 offset (copy (place 2 (lcons (field 0) lnil))) (copy (place 3 lnil))))
-    (seq (assign (place 5 (lcons (deref (tyInt 8)) lnil)) (rvOpd (copy (place 6 (lcons (deref (tyInt 8)) lnil)))))
-    (assign (place 3 lnil) (op2 (add unsigned) (copy (place 3 lnil)) (int 64 1))))))))))
-  return))))"""
-CALLED_AT = {("core::slice::edits::slice+T::copy_from_slice", '[{"Int": 8}]'): ("core::slice::copy_from_slice", COPY_FROM_SLICE)}
 
 
 def small(word):
@@ -207,9 +189,7 @@ class Body:
             raise unknown("call", callee)
         path, types = held[0], held[1]["types"]
         if types:
-            path, _ = CALLED_AT.get((path, json.dumps(types)), (None, None))
-        if path is None:
-            raise Stop(f"{held[0]} is called at the types {json.dumps(types)[:80]}, which CALLED_AT hasn't")
+            raise Stop(f"{path} is called at the types {json.dumps(types)[:80]}, and generic functions are not read")
         self.calls.append(path)
         return f'(call (direct (fnRef "{path}")) {chain("l", map(operand, arguments))} {place(to)})'
 
@@ -222,16 +202,12 @@ class Functions:
         for file in files:
             with open(file, encoding="utf-8") as opened:
                 self.items.update(json.load(opened))
-        self.by_hand = dict(CALLED_AT.values())
 
     def print(self, path):
         """The function, and before it what it calls."""
         if path in self.texts:
             return
         self.texts[path] = ""
-        if path in self.by_hand:
-            self.texts[path] = self.by_hand[path]
-            return
         if path not in self.items:
             raise Stop(f"there is no function {path}")
         item = self.items[path]

@@ -96,7 +96,6 @@ class Forms(unittest.TestCase):
         self.assertEqual(body.whole(), '(call (direct (fnRef "a::f")) (lcons (copy (place 1 lnil)) lnil) (place 0 lnil))')
         self.assertEqual(body.calls, ["a::f"])
         self.refused("a::f is called at the types", Body([call("a::f", [U8])]).whole)
-        self.assertIn('"core::slice::copy_from_slice"', Body([call("core::slice::edits::slice+T::copy_from_slice", [U8])]).whole())
         self.refused("call", Body([{"Call": [{"Method": []}, [], local(0)]}]).whole)
 
 
@@ -123,11 +122,6 @@ class Whole(unittest.TestCase):
         for items, why in (([["a::f", item(call("a::g"))]], "there is no function a::g"), ([["a::f", item("Unreachable")]], "a::f: the statement")):
             with self.assertRaisesRegex(Stop, why):
                 self.printed(items, "a::f")
-
-    def test_by_hand(self):
-        texts = self.printed([["a::f", item(call("core::slice::edits::slice+T::copy_from_slice", [U8]))]], "a::f")
-        self.assertEqual(list(texts), ["a::f", "core::slice::copy_from_slice"])
-        Program("program " + chain("l", texts.values()) + " none")
 
 
 if __name__ == "__main__":

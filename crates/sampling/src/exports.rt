@@ -6,6 +6,7 @@ ghost use Rattle.sampling.specs.core.Exports.{exported_uniform, exported_bernoul
 ghost use Rattle.sampling.specs.later.Threshold.{exported_threshold};
 
 use crate::big_endian;
+use crate::copying::copy_over;
 use crate::sample::{Draw, Threshold, U128, sample_bernoulli, sample_uniform, threshold_of};
 
 // The 16 bytes lent, by value.
@@ -14,7 +15,7 @@ fn seed_of(h: &[u8]) -> [u8; 16]
     ensures { result ≡ h.now }
 {
     let mut seed = [0u8; 16];
-    seed.copy_from_slice(h);
+    copy_over(h, &mut seed);
     seed
 }
 

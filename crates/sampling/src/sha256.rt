@@ -10,6 +10,7 @@ ghost use Rattle.sampling.specs.inner.LastBlocksInner.{in_one_piece, in_two_bloc
 ghost use Rattle.sampling.specs.later.Hasher.{new_hasher, absorb_bytes, too_long, absorbed, finished};
 
 use crate::big_endian;
+use crate::copying::copy_over;
 
 // So many bytes are hashed at most: 2^29.
 pub const MAX_HASHED: usize = 0x2000_0000;
@@ -305,7 +306,7 @@ fn with_bytes(block: [u8; 64], at: usize, s: &[u8]) -> [u8; 64]
     ensures { result ≡ sets block at s.now }
 {
     let mut out = block;
-    out[at..at + s.len()].copy_from_slice(s);
+    copy_over(s, &mut out[at..at + s.len()]);
     out
 }
 
@@ -411,7 +412,7 @@ fn with_string(m: [u8; 128], at: usize, s: &[u8]) -> [u8; 128]
     ensures { result ≡ sets m at s.now }
 {
     let mut out = m;
-    out[at..at + s.len()].copy_from_slice(s);
+    copy_over(s, &mut out[at..at + s.len()]);
     out
 }
 

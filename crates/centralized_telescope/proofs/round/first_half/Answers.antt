@@ -2,4 +2,4 @@
 use Rattle.centralized_telescope.proofs.round.first_half.Goals as goal
 
 pub returns : goal.returns
-returns c = c.copy_from_slice.ensures.after
+returns c = c.copy_over.ensures

@@ -5,4 +5,4 @@ use Rattle.sampling.proofs.sha256.with_bytes.Goals as goal
 
 pub returns : goal.returns
 returns c =
-    let z = c.args in copied_in z.block z.s.now _ z.at _ (omega arith) (omega arith) c.copy_from_slice.ensures.after
+    let z = c.args in copied_in z.block z.s.now _ z.at _ (omega arith) (omega arith) c.copy_over.ensures

@@ -4,4 +4,4 @@ use Rattle.sampling.proofs.Written.{copied_in}
 use Rattle.sampling.proofs.sha256.with_string.Goals as goal
 
 pub returns : goal.returns
-returns c = let z = c.args in copied_in z.m z.s.now _ z.at _ (omega arith) (omega arith) c.copy_from_slice.ensures.after
+returns c = let z = c.args in copied_in z.m z.s.now _ z.at _ (omega arith) (omega arith) c.copy_over.ensures
