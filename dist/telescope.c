@@ -2192,10 +2192,13 @@ static struct array_16_uint8_t centralized_telescope_round_first_half(struct arr
     struct array_16_uint8_t l0;
     struct array_32_uint8_t l2;
     struct array_16_uint8_t l3;
-    unsigned char *l5;
-    struct slice l6;
+    uint64_t l4;
+    uint8_t l5;
+    unsigned char *l6;
     unsigned char *l7;
-    struct slice l8;
+    uint8_t l8;
+    unsigned char *l9;
+    unsigned char *l10;
     l2 = l1;
     {
         const uint8_t value = UINT8_C(0);
@@ -2203,11 +2206,21 @@ static struct array_16_uint8_t centralized_telescope_round_first_half(struct arr
         for (i = 0; i < 16; i++)
             l3.a[i] = value;
     }
-    l5 = (unsigned char *)&l2;
-    l6 = (struct slice){.f0 = l5, .f1 = UINT64_C(16)};
-    l7 = (unsigned char *)&l3;
-    l8 = (struct slice){.f0 = l7, .f1 = UINT64_C(16)};
-    sampling_copying_copy_over(l6, l8);
+    l4 = UINT64_C(0);
+    for (;;) {
+        l5 = (uint8_t)(l4 < UINT64_C(16));
+        if (!l5) {
+            goto done_1;
+        }
+        l6 = (unsigned char *)&l2;
+        l7 = l6 + (size_t)l4;
+        l8 = (*(uint8_t *)l7);
+        l9 = (unsigned char *)&l3;
+        l10 = l9 + (size_t)l4;
+        (*(uint8_t *)l10) = l8;
+        l4 = (uint64_t)(l4 + UINT64_C(1));
+    }
+    done_1:;
     l0 = l3;
     return l0;
 }

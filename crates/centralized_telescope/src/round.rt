@@ -10,7 +10,7 @@ ghost use Rattle.centralized_telescope.specs.inner.RoundAnswers.{id_option};
 
 use crate::source::{own_data, own_index};
 use crate::types::{Index, index_bytes};
-use sampling::{Draw, U128, copy_over, eight_bytes, sample_bernoulli, sample_uniform};
+use sampling::{Draw, U128, eight_bytes, sample_bernoulli, sample_uniform};
 
 // R, the try. A type of its own, so that neither counter can be handed over for the other.
 #[derive(Clone, Copy)]
@@ -102,7 +102,11 @@ fn first_half(h: [u8; 32]) -> [u8; 16]
     ensures { result ≡ take 16 h }
 {
     let mut half = [0u8; 16];
-    copy_over(&h[..16], &mut half);
+    let mut i = 0;
+    while i < 16 {
+        half[i] = h[i];
+        i += 1;
+    }
     half
 }
 

@@ -10,7 +10,6 @@ pub mod sha256;
 mod theorems;
 
 pub use big_endian::{eight_bytes, number_of, write_number};
-pub use copying::copy_over;
 pub use exports::{alba_sample_bernoulli, alba_sample_uniform, alba_threshold};
 pub use sample::{Draw, Threshold, U128, sample_bernoulli, sample_uniform, threshold_of};
 pub use theorems::hasher_hashes;
