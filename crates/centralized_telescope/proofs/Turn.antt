@@ -1,7 +1,7 @@
 -- The walk's loop: what holds at its head, and a turn of it in the terms that the code's calls give.
-use Rattle.std.proofs.Common.{◌≡◌, ℕ, ◌+◌, ◌<◌, ◌≤◌, List, [], ◌∷◌, ◌++◌, length, get_or, take, drop, set, sym, ap, ◌∙◌, le_refl, add-one, arith, length-set, length-take-le}
+use Rattle.std.proofs.Common.{◌≡◌, ℕ, ◌+◌, ◌<◌, ◌≤◌, List, [], ◌∷◌, ◌++◌, length, get_or, take, drop, set, sym, ap, ◌∙◌, subst, le_refl, add-one, arith, length-set, length-take-le}
 use mathlib.Core.Option.{some}
-use lib.Seq.{slice, slice-cons, slice_empty, take-set-le}
+use lib.Seq.{slice, slice-cons, slice_empty, take-set-le, take-take}
 use Rattle.sampling.specs.laws.CommonLaws.{filled_more}
 use Rattle.centralized_telescope.specs.declared.search.Outcome.{Outcome}
 use Rattle.centralized_telescope.specs.declared.search.Outcome.TheVariants as outcome
@@ -127,7 +127,18 @@ module _ {W : Walk} {i count : ℕ} {next mid : List ℕ} {g : List ℕ} {d : Id
     abbrev below : Ended Chain
     below = visited T S g j path (depth + 1) count
 
-    module _ {o : Outcome} {last : List ℕ} (said : VisitEnds T.settings (depth + 1) below o mid last) where
+    -- it keeps the path that was handed to it, as far as that goes
+    module _ {o : Outcome} {last : List ℕ} (after : List ℕ) (said : VisitEnds T.settings (depth + 1) below o mid last)
+        (handed : take (depth + 1) after ≡ path) (as_long : length after ≡ 1024) where
+      pub path_after : take depth after ≡ ps
+      path_after =
+          let less : depth ≤ depth + 1 = omega arith in
+          sym (take-take depth (depth + 1) after less)
+          ∙ ap (λ (l : List ℕ). take depth l) handed
+          ∙ take-take depth (depth + 1) set_next less
+          ∙ take-set-le depth next depth place (le_refl depth)
+          ∙ k.head.path_is
+
       left : last ≡ written_from T.settings (depth + 1) below old
       left = said.places_are ∙ ap (written_from T.settings (depth + 1) below) k.head.as_lent
 
@@ -140,8 +151,8 @@ module _ {W : Walk} {i count : ℕ} {next mid : List ℕ} {g : List ℕ} {d : Id
       same : visited T S (next_at T h place) j (ps ++ (place ∷ [])) (depth + 1) count ≡ below
       same = rw (← k.hash_is, filled_more next ps depth place ahead k.head.path_is)
 
-      -- it finds nothing: the loop goes on with its count and the path that was handed to it
-      pub turn_missing : {t : ℕ} → o ≡ outcome.Missing t → (count' : ℕ) (next' mid' : List ℕ) → count' ≡ t → next' ≡ set_next → mid' ≡ last
+      -- it finds nothing: the loop goes on with its count and the path as it is
+      pub turn_missing : {t : ℕ} → o ≡ outcome.Missing t → (count' : ℕ) (next' mid' : List ℕ) → count' ≡ t → next' ≡ after → mid' ≡ last
           → Looping W (i + 1) count' next' mid'
       turn_missing {t} v count' next' mid' C N M =
           let m : below ≡ missing t = missing_of below t (sym v ∙ said.answer_is) in
@@ -149,8 +160,8 @@ module _ {W : Walk} {i count : ℕ} {next mid : List ℕ} {g : List ℕ} {d : Id
             low = omega (arith, k.head.low);
             high = omega (arith, k.inside);
             most = rw m at (visited_bound T S g j path (depth + 1) count (omega (arith, k.within)));
-            long = length-set next depth place ∙ k.head.long;
-            path_is = take-set-le depth next depth place (le_refl depth) ∙ k.head.path_is;
+            long = as_long;
+            path_is = path_after;
             as_lent = left ∙ written_none T.settings (depth + 1) below old t m;
             still = opened ∙ walked_missing T S h ps depth count place behind j t drawn (same ∙ m);
           })
@@ -172,7 +183,7 @@ module _ {W : Walk} {i count : ℕ} {next mid : List ℕ} {g : List ℕ} {d : Id
         }
 
         -- the places are written here
-        pub turn_write : depth + 1 ≡ size W → {now : List ℕ} → now ≡ take (size W) set_next ++ drop (size W) last
+        pub turn_write : depth + 1 ≡ size W → {now : List ℕ} → now ≡ take (size W) after ++ drop (size W) last
             → WalkEnds (whole W) (outcome.Found t) old now
         unfolding written
         turn_write eq {now} n =
@@ -181,4 +192,5 @@ module _ {W : Walk} {i count : ℕ} {next mid : List ℕ} {g : List ℕ} {d : Id
             let kept : last ≡ old = left ∙ written_full T.settings (depth + 1) below old (omega arith) in
             let long : length path ≡ depth + 1 =
             length-take-le (depth + 1) set_next (omega (arith, ahead, length-set next depth place)) in
-            record { answer_is = rw ends_so; places_are = rw (ends_so, own, long, eq) (n ∙ rw kept) }
+            let whole_path : take (size W) after ≡ take (size W) set_next = subst (λ (m : ℕ). take m after ≡ take m set_next) eq handed in
+            record { answer_is = rw ends_so; places_are = rw (ends_so, own, long, eq) (n ∙ rw (kept, whole_path)) }

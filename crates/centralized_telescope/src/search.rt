@@ -31,9 +31,9 @@ pub enum Attempt {
 }
 
 // Writes the first n places of the path.
-fn write_places(path: [u32; PATH], n: usize, places: &mut [u32])
-    requires { (n ≤ max_proof_size) × (n ≤ length places.old) }
-    ensures { places.new ≡ take n path ++ drop n places.old }
+fn write_places(path: &[u32], n: usize, places: &mut [u32])
+    requires { (n ≤ length path.now) × (n ≤ length places.old) }
+    ensures { places.new ≡ take n path.now ++ drop n places.old }
 {
     let mut i = 0;
     while i < n {
@@ -60,15 +60,17 @@ fn visit<'a>(
     table: &[u32],
     h: [u8; 32],
     id: u64,
-    path: [u32; PATH],
+    path: &mut [u32],
     depth: usize,
     steps: u64,
     places: &mut [u32],
 ) -> Outcome
-    requires { CanVisit p (source_now «data» ends marks indexes data2 ends2 marks2 indexes2 added) retry.0 table.now (length places.old) id depth steps }
-    ensures { VisitEnds p depth (visited (try_on p (source_at_entry «data» ends marks indexes data2 ends2 marks2 indexes2 added)
+    requires can { CanVisit p (source_now «data» ends marks indexes data2 ends2 marks2 indexes2 added) retry.0 table.now (length places.old) id depth steps }
+    requires long { length path.old ≡ max_proof_size }
+    ensures ends { VisitEnds p depth (visited (try_on p (source_at_entry «data» ends marks indexes data2 ends2 marks2 indexes2 added)
         retry.0) search.0 h id
-        (take depth path) depth steps) result places.old places.new }
+        (take depth path.old) depth steps) result places.old places.new }
+    ensures path_kept { take depth path.new ≡ take depth path.old }
 {
     if depth < p.proof_size as usize {
         let span = span_of(table, p.set_size as usize, id as usize);
@@ -101,8 +103,8 @@ fn visit<'a>(
     Outcome::Missing(steps + 1)
 }
 
-// The extensions of a chain by the places from one index of the table up to another: each that exists is visited. The places found are
-// written here, where the path is whole, and not by the visit: that keeps one path to a level of the stack.
+// The extensions of a chain by the places from one index of the table up to another: each that exists is visited. One path serves all
+// levels of the stack: each writes at its own depth. The places found are written here, where the path is whole.
 #[cycle(visit_walk)]
 fn walk<'a>(
     p: Params,
@@ -119,22 +121,23 @@ fn walk<'a>(
     added: &[u16],
     table: &[u32],
     h: [u8; 32],
-    path: [u32; PATH],
+    path: &mut [u32],
     depth: usize,
     from: usize,
     to: usize,
     steps: u64,
     places: &mut [u32],
 ) -> Outcome
-    requires { CanWalk p (source_now «data» ends marks indexes data2 ends2 marks2 indexes2 added) retry.0 table.now (length places.old) from to depth steps }
-    ensures { WalkEnds (walked (try_on p (source_at_entry «data» ends marks indexes data2 ends2 marks2 indexes2 added) retry.0)
-        search.0 h (take depth path) depth
+    requires can { CanWalk p (source_now «data» ends marks indexes data2 ends2 marks2 indexes2 added) retry.0 table.now (length places.old) from to depth steps }
+    requires long { length path.old ≡ max_proof_size }
+    ensures ends { WalkEnds (walked (try_on p (source_at_entry «data» ends marks indexes data2 ends2 marks2 indexes2 added) retry.0)
+        search.0 h (take depth path.old) depth
         (slice from to table.now) steps) result places.old places.new }
+    ensures path_kept { take depth path.new ≡ take depth path.old }
 {
     let size = p.proof_size as usize;
     let mut count = steps;
     let mut i = from;
-    let mut next = path;
     while i < to {
         if p.dfs_bound <= count {
             return Outcome::Missing(count);
@@ -156,7 +159,7 @@ fn walk<'a>(
         let drawn = round_id(g, p.set_size);
         match drawn {
             Id::At(id) => {
-                next[depth] = place;
+                path[depth] = place;
                 let outcome = visit(
                     p,
                     retry,
@@ -173,7 +176,7 @@ fn walk<'a>(
                     table,
                     g,
                     id,
-                    next,
+                    path,
                     depth + 1,
                     count,
                     places,
@@ -181,7 +184,7 @@ fn walk<'a>(
                 match outcome {
                     Outcome::Found(c) => {
                         if depth + 1 == size {
-                            write_places(next, size, places);
+                            write_places(path, size, places);
                         }
                         return Outcome::Found(c);
                     }
@@ -218,6 +221,7 @@ pub fn prove_index<'a>(
         places.old places.new }
 {
     let mut count: u64 = 0;
+    let mut path = [0u32; PATH];
     let mut s: u64 = 0;
     while s < p.search_width {
         if p.dfs_bound <= count {
@@ -229,25 +233,8 @@ pub fn prove_index<'a>(
         match drawn {
             Id::At(id) => {
                 let outcome = visit(
-                    p,
-                    retry,
-                    search,
-                    data,
-                    ends,
-                    marks,
-                    indexes,
-                    data2,
-                    ends2,
-                    marks2,
-                    indexes2,
-                    added,
-                    table,
-                    h,
-                    id,
-                    [0u32; PATH],
-                    0,
-                    count,
-                    places,
+                    p, retry, search, data, ends, marks, indexes, data2, ends2, marks2, indexes2,
+                    added, table, h, id, &mut path, 0, count, places,
                 );
                 match outcome {
                     Outcome::Found(c) => {

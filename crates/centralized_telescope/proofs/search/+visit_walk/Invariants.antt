@@ -18,14 +18,14 @@ invariant-walk-loop-i l =
       of = try_on l.p (source_of l.data l.ends l.marks l.indexes l.data2 l.ends2 l.marks2 l.indexes2 l.added) l.retry.0;
       search = l.search.0;
       hash = l.h;
-      path = take l.depth l.initial.next;
+      path = take l.depth l.initial.path;
       depth = l.depth;
       table = l.table;
       from = l.from;
       to = l.to;
       steps = l.steps;
       old = l.initial.places;
-    }) l.i l.count l.next l.places
+    }) l.i l.count l.path l.places
 
 abbrev pub decreases-walk-loop-i : goal.decreases-walk-loop-i
 decreases-walk-loop-i l = l.to - l.i

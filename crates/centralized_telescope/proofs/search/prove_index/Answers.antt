@@ -18,8 +18,8 @@ loop-s-init c =
 pub returns-then-p-count : goal.returns-then-p-count
 returns-then-p-count c = bound_reached c.loop-s.invariant c.if-p-count.true
 
-pub visit-outcome-requires : goal.visit-outcome-requires
-visit-outcome-requires c =
+pub visit-outcome-requires-clause-can : goal.visit-outcome-requires-clause-can
+visit-outcome-requires-clause-can c =
     let a = c.args in
     let source = source_now a.«data» a.ends a.marks a.indexes a.data2 a.ends2 a.marks2 a.indexes2 a.added in
     record {
@@ -41,7 +41,7 @@ returns-in-Found c =
       hash_is = c.start_hash-h.ensures;
       id_is = c.round_id-drawn.ensures;
     } in
-    try_found k c.in-At.is c.visit-outcome.ensures c.in-Found.is
+    try_found k c.in-At.is c.visit-outcome.ensures.ends c.in-Found.is
 
 -- on by a visit that found nothing, or where the round doesn't exist
 pub loop-s-preserved : goal.loop-s-preserved
@@ -57,7 +57,7 @@ loop-s-preserved c =
       id_is = c.round_id-drawn.ensures;
     } in
     elim c.match-drawn.branch [
-      | in-At+in-Missing w ↦ try_missing k w.in-At.is w.visit-outcome.ensures w.in-Missing.is _ _ w.count-is w.places-is
+      | in-At+in-Missing w ↦ try_missing k w.in-At.is w.visit-outcome.ensures.ends w.in-Missing.is _ _ w.count-is w.places-is
       | in-Nowhere w ↦ try_nothing k w.in-Nowhere.is _ _ w.count-is w.places-is
     ]
 
