@@ -75,7 +75,7 @@ RaisedAnswer =
     → (lent : Lent) (places table : List ℕ)
     → AnswerRaised p lower (elements lent) (proved (with_bound p lower) lent places table) (proved (with_bound p higher) lent places table)
 
--- ---- that raisedRun needs its premise: under the bound 1 the first try, whose second chain is the first to pass, reaches the bound, and
+-- ---- that RaisedRun needs its premise: under the bound 1 the first try, whose second chain is the first to pass, reaches the bound, and
 -- the proof is the second try's; under 2 it is the first try's. With the first try alone 11 becomes a proof
 
 abbrev pub half_settings : ℕ → ℕ → Params

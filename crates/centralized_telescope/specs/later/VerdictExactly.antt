@@ -30,7 +30,7 @@ pub record Lawful (p : Params) : Type 0 where
 abbrev pub verdict_numbers : List ℕ
 verdict_numbers = 0 ∷ 1 ∷ 2 ∷ 4 ∷ 5 ∷ 20 ∷ 21 ∷ 22 ∷ []
 
--- v being the verdict on a list that has the elements es and the number `listNumber`: 4, 5, or 0 for one that is accepted
+-- v being the verdict on a list that has the elements es and the number `list_number`: 4, 5, or 0 for one that is accepted
 pub record VerdictIs (p : Params) (R S : ℕ) (list_number : ℕ) (es : List Element) (v : ℕ) : Type 0 where
   pub one_of_these : Memᴰ v verdict_numbers
   pub set_size : (v ≡ 1) ↔ (SetSizeKept p → ⊥)

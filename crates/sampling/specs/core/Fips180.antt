@@ -10,7 +10,7 @@ abbrev pub ◌⊞◌ : ℕ → ℕ → ℕ
 x ⊞ y = (x + y) % 2 ^ 32
 
 infixl 65 ◌⊞◌
--- 3.2, 1 and 2.2.2: the complement ¬x; ∧, ∨ and ⊕ are the library's bitAnd, bitOr and bitXor
+-- 3.2, 1 and 2.2.2: the complement ¬x; ∧, ∨ and ⊕ are the library's bit_and, bit_or and bit_xor
 abbrev pub ¬w : ℕ → ℕ
 ¬w x = 2 ^ 32 - 1 - x
 
