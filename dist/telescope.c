@@ -1201,8 +1201,8 @@ static struct array_128_uint8_t sampling_sha256_joined(struct slice l1, struct s
         for (i = 0; i < 128; i++)
             l13.a[i] = value;
     }
-    l9 = sampling_sha256_with_string(l13, UINT64_C(0), l1);
-    l10 = sampling_sha256_with_string(l9, l5, l2);
+    l9 = sampling_sha256_with_string(l13, l5, l2);
+    l10 = sampling_sha256_with_string(l9, UINT64_C(0), l1);
     l11 = sampling_sha256_with_string(l10, l6, l3);
     l13 = sampling_sha256_with_string(l11, l7, l4);
     l0 = sampling_sha256_pad(l13, l8, l8);

@@ -38,15 +38,33 @@ pub first_laid : (s : List ℕ) → length s ≤ 128 → sets (replicate 128 0) 
 unfolding in_two_blocks
 first_laid s le = laid [] s 0 refl (omega arith)
 
+-- two strings, the second put there first
+two_laid : (a b : List ℕ) → length a + length b ≤ 128 → sets (sets (replicate 128 0) (length a) b) 0 a ≡ in_two_blocks (a ++ b)
+unfolding in_two_blocks
+two_laid a b le =
+    let rest : ℕ = 128 - length (a ++ b) in
+    let k : 128 ≡ length a + (length b + rest) = omega (arith, length-append a b) in
+    let za : List ℕ = replicate (length a) 0 in
+    let zb : List ℕ = replicate (length b) 0 in
+    let zs : List ℕ = replicate rest 0 in
+    let split : replicate 128 0 ≡ za ++ (zb ++ zs) =
+    ap (λ (n : ℕ). replicate n 0) k
+    ∙ sym (replicate-append-replicate {A = ℕ} (length a) (length b + rest) 0)
+    ∙ ap (λ (l : List ℕ). za ++ l) (sym (replicate-append-replicate {A = ℕ} (length b) rest 0)) in
+    ap (λ (l : List ℕ). sets (sets l (length a) b) 0 a) split
+    ∙ ap (λ (l : List ℕ). sets l 0 a)
+    (in_place za zb zs b (length a) (sym (length-replicate (length a) 0)) (length-replicate (length b) 0))
+    ∙ in_place [] za (b ++ zs) a 0 refl (length-replicate (length a) 0)
+    ∙ sym (append_assoc a b zs)
+
 pub four_laid : (a b c d : List ℕ) → length a + length b + length c + length d ≤ 128
-    → sets (sets (sets (sets (replicate 128 0) 0 a) (length a) b) (length a + length b) c) (length a + length b + length c) d
+    → sets (sets (sets (sets (replicate 128 0) (length a) b) 0 a) (length a + length b) c) (length a + length b + length c) d
     ≡ in_two_blocks (a ++ (b ++ (c ++ d)))
 four_laid a b c d le =
     let ab : length a + length b ≡ length (a ++ b) = sym (length-append a b) in
     let abc : length a + length b + length c ≡ length ((a ++ b) ++ c) = rw ab (sym (length-append (a ++ b) c)) in
     rw (
-      first_laid a (omega arith),
-      laid a b (length a) refl (omega arith),
+      two_laid a b (omega arith),
       laid (a ++ b) c _ ab (omega arith),
       laid ((a ++ b) ++ c) d _ abc (omega arith),
     )

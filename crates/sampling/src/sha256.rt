@@ -445,8 +445,10 @@ fn joined(a: &[u8], b: &[u8], c: &[u8], d: &[u8]) -> [u8; 128]
     let j = i + b.len();
     let k = j + c.len();
     let n = k + d.len();
-    let one = with_string([0u8; 128], 0, a);
-    let two = with_string(one, i, b);
+    // The second string goes first: where the first does, the compiler zeroes what is behind it alone, and so calls `memset`, which a
+    // loader needn't have.
+    let one = with_string([0u8; 128], i, b);
+    let two = with_string(one, 0, a);
     let three = with_string(two, j, c);
     pad(with_string(three, k, d), n, n)
 }
