@@ -4,8 +4,27 @@ import re
 from mir import FLOATS, UNIT, WIDTHS, Stop
 
 
-def c_name(path):
-    return path.replace("::", "_")
+def plain(text):
+    return re.sub(r"\W+", "_", text).strip("_")
+
+
+def last_names(text):
+    """Paths by their last names, but for the type of a closure, whose last name says little."""
+    return re.sub(r"[\w+]+(::[\w+]+)+", lambda path: path[0] if "+" in path[0] else path[0].split("::")[-1], text)
+
+
+class Names:
+    """C's names of paths. Of an argument in <> the last name stands in it; or the whole path, where another has the name with the last."""
+
+    def __init__(self):
+        self.taken = {}
+
+    def of(self, path):
+        before, less, arguments = path.partition("<")
+        for name in (plain(before + less + last_names(arguments)), plain(path)):
+            if self.taken.setdefault(name, path) == path:
+                return name
+        raise Stop(f"{path} and {self.taken[name]} would have one name in C")
 
 
 def declare(c_type, variable):
@@ -30,11 +49,24 @@ def wrapped(texts, indent, before=0):
     return ("\n" + indent).join(lines + [line])
 
 
+def one_after_the_other(parts):
+    """Bytes and alignment of what lies so, each at the next place that its alignment allows."""
+    end, align = 0, 1
+    for size, of in parts:
+        end, align = -(-end // of) * of + size, max(align, of)
+    return -(-end // align) * align, align
+
+
+def at_one_place(parts):
+    align = max((of for _, of in parts), default=1)
+    return -(-max((size for size, _ in parts), default=0) // align) * align, align
+
+
 class Types:
     """The C types that are used, and their definitions in the order in which they are needed."""
 
     def __init__(self, program):
-        self.program, self.made, self.texts = program, {}, []
+        self.program, self.names, self.made, self.texts = program, Names(), {}, []
 
     def c(self, t):
         kind = t[0]
@@ -59,11 +91,44 @@ class Types:
             raise Stop(f"{origin} and {self.made[title]} would have one name in C")
         return title
 
-    def element(self, t):
-        """An array that is an element has no bytes behind its own elements, or the C doesn't compile: MIR steps over it by its own size."""
-        c_type = self.c(t)
+    def layout(self, t, in_c):
+        """Bytes and alignment, in the logic or in a C that aligns numbers to their own size."""
+        if t[0] in ("int", "float"):
+            return t[1] // 8, t[1] // 8
+        if t[0] in ("bool", "unit"):
+            return int(t[0] == "bool"), 1
         if t[0] == "array":
-            title = re.sub(r"\W+", "_", c_type.replace("struct ", "")) + "_has_its_elements_alone"
+            size, align = self.layout(t[1], in_c)
+            return size * max(t[2], int(in_c)), align
+        if t[0] != "named":
+            raise Stop("an element with an address within, which has another size on other machines, is not known")
+        shape, fields = self.program.shape(t[1])
+        if shape == "fields":
+            return one_after_the_other(self.layouts(fields, in_c) or [(int(in_c), 1)])
+        variants = [self.layouts(variant, in_c) for variant in fields]
+        if in_c:
+            return one_after_the_other([(1, 1), at_one_place(list(map(one_after_the_other, variants)))])
+        return at_one_place([(1, 1)] + [one_after_the_other([(1, 1)] + variant) for variant in variants])
+
+    def layouts(self, fields, in_c):
+        return [self.layout(field, in_c) for field in fields if not in_c or field != UNIT]
+
+    def size(self, t):
+        """The bytes by which MIR steps over an element."""
+        (size, _), (size_in_c, _) = self.layout(t, False), self.layout(t, True)
+        if size != size_in_c:
+            raise Stop(f"an element of type {self.c(t)}, which has {size} bytes in MIR and {size_in_c} in C, is not known")
+        return size
+
+    def element(self, t):
+        """C steps over an element by as many bytes as MIR, or it doesn't compile: an array that is one has none behind its own elements."""
+        size = self.size(t) if t[0] == "named" else 0
+        c_type = self.c(t)
+        if t[0] == "named":
+            title = f"{plain(c_type.replace('struct ', ''))}_has_{size}_bytes"
+            self.define(title, t, lambda: f"typedef char {title}[sizeof({c_type}) == {size} ? 1 : -1];\n")
+        if t[0] == "array":
+            title = plain(c_type.replace("struct ", "")) + "_has_its_elements_alone"
             size = f"sizeof({c_type}) == {t[2]} * sizeof({self.c(t[1])})"
             self.define(title, t, lambda: f"typedef char {title}[{size} ? 1 : -1];\n")
         return c_type
@@ -71,7 +136,7 @@ class Types:
     def array(self, t):
         _, element, length = t
         inner = self.element(element)
-        title = f"array_{length}_" + re.sub(r"\W+", "_", inner.replace("struct ", ""))
+        title = f"array_{length}_" + plain(inner.replace("struct ", ""))
         return self.define(title, t, lambda: f"struct {title} {{\n    {inner} a[{max(length, 1)}];\n}};\n")
 
     def named(self, path):
@@ -81,8 +146,9 @@ class Types:
                 body = self.members(fields, "    ") or "    uint8_t nothing;\n"
             else:
                 body = "    uint8_t tag;\n" + self.union(fields)
-            return f"/* {path} */\nstruct {c_name(path)} {{\n{body}}};\n"
-        return self.define(c_name(path), path, make)
+            return f"/* {path} */\nstruct {title} {{\n{body}}};\n"
+        title = self.names.of(path)
+        return self.define(title, path, make)
 
     def members(self, fields, indent):
         real = [(i, field) for i, field in enumerate(fields) if field != UNIT]

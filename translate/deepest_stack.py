@@ -3,7 +3,7 @@
 The deepest stack of a C function, by gcc's own account: `deepest_stack.py FUNCTION MOST < FILE.ci`, where gcc wrote FILE.ci with
 -fcallgraph-info=su: the bytes of each function's frame, and who calls whom after inlining. Prints the sum along the deepest chain of calls
 and the chain, and fails unless it is under MOST. What isn't in the file, such as memcpy or the division of 64-bit numbers, is counted with
-OUTSIDE bytes; a frame of no fixed size and a call in a circle are refused.
+OUTSIDE bytes; a frame without a bound and a call in a circle are refused.
 """
 import re
 import sys
@@ -11,13 +11,16 @@ import sys
 # More than gcc's __aeabi_uldivmod takes with what it calls, which is the deepest of them (72 bytes by its pushes, for a Cortex-M0).
 OUTSIDE = 128
 
+# Of the second, where a struct is pushed as an argument, gcc says the most that the function takes.
+BOUNDED = ("static", "dynamic,bounded")
+
 
 def read(text):
     frames, calls = {}, {}
     for title, label in re.findall(r'node: \{ title: "([^"]*)" label: "([^"]*)"', text):
         size = re.search(r"\\n(\d+) bytes \(([^)]*)\)", label)
-        if size and size.group(2) != "static":
-            sys.exit(f"deepest_stack: {title} has a frame of no fixed size")
+        if size and size.group(2) not in BOUNDED:
+            sys.exit(f"deepest_stack: {title} has a frame without a bound")
         frames[title] = int(size.group(1)) if size else OUTSIDE
     for caller, callee in re.findall(r'edge: \{ sourcename: "([^"]*)" targetname: "([^"]*)"', text):
         calls.setdefault(caller, set()).add(callee)

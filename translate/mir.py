@@ -62,8 +62,12 @@ def number(node):
     return int(node)
 
 
+# As instances.py makes it: a path, and behind it arguments in <>.
+NAME = re.compile(r'"[A-Za-z][\w+]*(::[A-Za-z][\w+]*)*(<[\w+:<>, ]+>)?(\+\d+)?"', re.ASCII)
+
+
 def name(node):
-    if not isinstance(node, str) or not re.fullmatch(r'"[A-Za-z]\w*(::[A-Za-z]\w*)*"', node, re.ASCII):
+    if not isinstance(node, str) or not NAME.fullmatch(node):
         raise Stop(f"{brief(node)} stands where a path of names is due")
     return node[1:-1]
 
@@ -111,10 +115,9 @@ def read_type(node):
 
 
 def read_element(node):
-    """MIR steps over elements by its own sizes. C's are the same for numbers, and for arrays of them by what c_types.py has C check, and
-    need not be for the rest."""
+    """MIR steps over elements by its own sizes. C's are the same for numbers; for arrays and declared types c_types.py sees to it."""
     t = read_type(node)
-    if t[0] not in ("int", "bool", "float") and not (t[0] == "array" and t[2] > 0):
+    if t[0] not in ("int", "bool", "float", "named") and not (t[0] == "array" and t[2] > 0):
         raise Stop(f"elements of type {t[0]}, which C may lay out in another size, are not known")
     return t
 

@@ -2,12 +2,14 @@
 """
 From the proved MIR of Rattle crates to one C99 file: `mir_to_c.py EXPORT.. < MIR > FILE.c`, where MIR is what rlib_mir.py prints of built
 libraries, and EXPORT the path of a function to be called from C. The functions that the exports reach are translated one by one, each
-statement by itself. Nothing is optimized. What is not in the tables below ends the run with a message.
+statement by itself. Nothing is optimized but copies of structs (copies.py). What is not in the tables below ends the run with a message.
 
 MIR's grammar, and what each form becomes. The meaning of each is that of the kit's logic (Mir/Syntax, Mir/Val, Prog/Memory, Prog/Machine).
 
   program FNS MAIN                the functions by name; MAIN is left out
-  fn-def NAME ITEM [TYPES]        a static function under a comment with its path, `::` being `_`; TYPES are declared structs and enums
+  fn-def NAME ITEM [TYPES]        a static function under a comment with its path, `::` being `_`; TYPES are declared structs and enums.
+                                  What is generic has its arguments in <>; of each path among them C has the last name alone, but
+                                  for a closure's, or where another function or type has that name: a::B<c::D> is a_B_D
   fnItem N BOUNDS PARAMS LOCALS BODY   l0 the result, l1.. the parameters, then the other locals; lifetimes (N, BOUNDS) are left out
   local TYPE HOME                 a C variable, wherever it lives. No local is read before it is written: so much is proved
 
@@ -17,7 +19,8 @@ MIR's grammar, and what each form becomes. The meaning of each is that of the ki
   tyPtr, tyRef LIFETIME MUT TYPE  unsigned char *; an address counts bytes. C's const is dropped where a slice is lent: nothing
                                   writes through a `&`, so much is proved
   tyArray TYPE (lenLit N)         a struct of an array; a stand-in of one element where N is 0, since C has no empty array. Of one that is
-                                  an element itself C checks that no bytes are added to it
+                                  an element itself C checks that no bytes are added to it. Of a struct or an enum that is an element
+                                  it checks that it has the bytes that the logic gives it; one with other bytes in C is refused
   tyUnit                          nothing: no variable, no parameter, no field
   tyStruct "&[]" ..               struct slice: an address and a count of elements in 64 bits; any other struct spelled out is refused
   tyNamed (pair NAME ..)          the declared struct, fields f0.., or the enum: a tag, which is the variant's position, and a union
@@ -30,12 +33,13 @@ MIR's grammar, and what each form becomes. The meaning of each is that of the ki
     variant V                     what the next field is one of
   copy PLACE                      the lvalue
   int W N, float F N              a constant by its number, or by its bits
+  sizeOf TYPE                     the number of bytes that the logic gives the type, which is checked as for an element
   intNeg W K, intBig W N          refused: in the logic 2^W - K, and N with a proof that it fits; either is printed as int
   ptrConst N                      refused: the logic gives it no meaning
   true, false, unit               1, 0, nothing
 
   rvOpd X                         X
-  addrOf PLACE                    (unsigned char *)& of the lvalue
+  addrOf PLACE                    (unsigned char *)& of the lvalue; of a unit, the address of a byte that is never read
   aggregate XS                    a compound literal, so that all XS are read before anything is written; a constant array is copied
                                   from a static const one
   repeat X N                      X read once, and a loop that writes it N times
@@ -65,10 +69,14 @@ MIR's grammar, and what each form becomes. The meaning of each is that of the ki
   switch X ARMS                   switch (X) with the arms' keys as cases and a break behind each arm that may end
     arm KEYS A ARMS, default A    case KEY: A; default: A
     noDefault                     the last arm is the default too: no other key comes, so much is proved
-  lendStatic PLACE TYPE (ints W NS)   PLACE = the address of a static const array of the numbers NS, of W bits each
+  lendStatic PLACE TYPE CONSTANT  PLACE = the address of a static const variable of the TYPE
+    ints W NS                     an array of the numbers NS, of W bits each
+    parts CS                      a struct's fields, another array's elements, or an enum's tag and then that variant's fields
+    int W N, true, false, unit    as the operands
   call (direct (fnRef F)) XS PLACE   PLACE = F(XS); the address of PLACE, where it goes through a deref, is found after the call
   call (foreign ..) ..            refused
   return                          return l0;
+  unreachable                     for (;;) { }: it is never reached, so much is proved
 
 An export is not static and has the last name of its path, and for each slice a pointer and a size_t, out of which the slice is made at its
 head. Callees stand before callers; a call in a circle is refused. Exports that reach a float, and what only they reach, stand last and go
@@ -78,9 +86,10 @@ import os
 import re
 import sys
 
-from c_types import Types, c_name, constant, declare, helpers, wrapped
+from c_types import Types, constant, declare, helpers, wrapped
+from copies import fewer
 from mir import (ADDRESS, BOOL, FLOATS, U8, U32, U64, UNIT, Program, Stop, brief, format_of, head, items, name, number, one_of, parts,
-                 read_type, width_of)
+                 read_element, read_type, width_of)
 
 SIGNS = ("unsigned", "signed")
 ARITHMETIC = {"add": "+", "sub": "-", "mul": "*"}
@@ -101,10 +110,16 @@ class Function:
     def __init__(self, program, types, path):
         self.program, self.types, self.path = program, types, path
         _, _, params, locals_, self.body = parts(program.function(path), "fnItem", 5)
-        self.locals = [read_type(parts(local, "local", 2)[0]) for local in items(locals_)]
+        self.locals = self.types_of(items(locals_))
         self.params = number(params)
         self.read, self.used, self.calls, self.helpers = set(), set(), [], set()
         self.again()
+
+    def types_of(self, locals_):
+        try:
+            return [read_type(parts(local, "local", 2)[0]) for local in locals_]
+        except Stop as problem:
+            raise Stop(f"{self.path}: {problem}") from None
 
     def again(self):
         self.around, self.labels, self.gone_to, self.lines, self.indent = [], 0, set(), [], "    "
@@ -129,9 +144,10 @@ class Function:
         """An lvalue and its type. A place that is written reads no local but those whose address it goes through."""
         local, steps = parts(node, "place", 2)
         k, steps = self.local(local), items(steps)
-        if not written or any(head(step) == "deref" for step in steps):
+        text, t = self.walk(f"l{k}", self.locals[k], steps)
+        if t != UNIT and (not written or any(head(step) == "deref" for step in steps)):
             self.read.add(k)
-        return self.walk(f"l{k}", self.locals[k], steps)
+        return text, t
 
     def walk(self, text, t, steps):
         variant = None
@@ -177,7 +193,8 @@ class Function:
             if t != ADDRESS:
                 raise Stop(f"a deref of {self.types.c(t)}")
             return text
-        return f"(unsigned char *)&{self.place(node)[0]}"
+        text, t = self.place(node)
+        return '(unsigned char *)""' if t == UNIT else f"(unsigned char *)&{text}"
 
     # -- values
 
@@ -194,6 +211,10 @@ class Function:
             width, value = parts(node, word, 2)
             f = format_of(width)
             return f"{self.help(f'f{f}_of_bits')}({constant(f, number(value))})", ("float", f)
+        if word == "sizeOf":
+            t = read_element(parts(node, word, 1)[0])
+            self.types.element(t)
+            return constant(64, self.types.size(t)), U64
         raise Stop(f"the operand {brief(node)} is not known")
 
     def operands(self, node):
@@ -207,7 +228,7 @@ class Function:
         if word == "addrOf":
             return self.address(parts(node, word, 1)[0]), ADDRESS
         if word == "aggregate":
-            return self.aggregate(self.operands(parts(node, word, 1)[0]), wanted), wanted
+            return f"({self.types.c(wanted)}){self.aggregate(self.operands(parts(node, word, 1)[0]), wanted)}", wanted
         if word == "op1":
             op, x = parts(node, word, 2)
             return self.op1(op, *self.operand(x))
@@ -231,29 +252,32 @@ class Function:
         return [(i, text) for i, (text, t) in enumerate(operands) if t != UNIT]
 
     def aggregate(self, operands, t):
-        c_type = self.types.c(t)
+        """What stands behind the type in a compound literal."""
         if t[0] == "array":
             texts = [text for _, text in self.listed(operands, [t[1]] * t[2], "elements")]
-            return f"({c_type}){{{{{', '.join(texts) or '0'}}}}}"
+            return f"{{{{{', '.join(texts) or '0'}}}}}"
         if t[0] == "slice":
             texts = [f".f{i} = {text}" for i, text in self.listed(operands, [ADDRESS, U64], "a slice")]
-            return f"({c_type}){{{', '.join(texts)}}}"
+            return f"{{{', '.join(texts)}}}"
         shape, fields = self.program.shape(t[1]) if t[0] == "named" else (None, None)
         if shape == "fields":
             texts = [f".f{i} = {text}" for i, text in self.listed(operands, fields, t[1])]
-            return f"({c_type}){{{', '.join(texts) or '.nothing = 0'}}}"
+            return f"{{{', '.join(texts) or '.nothing = 0'}}}"
         if shape != "variants":
-            raise Stop(f"an aggregate of {c_type}")
+            raise Stop(f"an aggregate of {self.types.c(t)}")
         return self.variant(operands, t, fields)
 
-    def variant(self, operands, t, variants):
-        tag = re.fullmatch(r"UINT8_C\((\d+)\)", operands[0][0]) if operands else None
-        if tag is None or int(tag.group(1)) >= len(variants):
+    def tag(self, text, t, variants):
+        constant_ = re.fullmatch(r"UINT8_C\((\d+)\)", text)
+        if constant_ is None or int(constant_.group(1)) >= len(variants):
             raise Stop(f"the tag of {t[1]} is no constant of its own")
-        k = int(tag.group(1))
+        return int(constant_.group(1))
+
+    def variant(self, operands, t, variants):
+        k = self.tag(operands[0][0] if operands else "", t, variants)
         texts = [f".f{i} = {text}" for i, text in self.listed(operands[1:], variants[k], t[1])]
         union = f", .u = {{.v{k} = {{{', '.join(texts)}}}}}" if texts else ""
-        return f"({self.types.c(t)}){{.tag = {k}{union}}}"
+        return f"{{.tag = {k}{union}}}"
 
     # -- operations
 
@@ -357,6 +381,9 @@ class Function:
         if node == "return":
             self.read.add(0)
             self.emit("return;" if self.locals[0] == UNIT else "return l0;")
+        elif node == "unreachable":
+            self.emit("for (;;) {")
+            self.emit("}")
         elif node != "skip":
             forms = {"assign": (self.assign, 2), "if": (self.branch, 3), "block": (self.block, 1), "loop": (self.loop, 1),
                      "exit": (self.exit, 1), "switch": (self.switch, 2), "call": (self.call, 3), "lendStatic": (self.lend_static, 3)}
@@ -407,18 +434,41 @@ class Function:
         text, t = self.place(place, written=True)
         self.same(t, ADDRESS, "a constant that is lent")
         u = read_type(kind)
-        width, values = parts(constant_, "ints", 2)
-        numbers = [number(value) for value in items(values)]
-        if u[0] != "array" or u[1] != ("int", width_of(width)) or u[2] != len(numbers):
-            raise Stop(f"{len(numbers)} numbers of {width} bits are lent as {self.types.c(u)}")
-        indent = self.indent + " " * 8
-        texts = [constant(u[1][1], value) for value in numbers]
-        made = f"{{{{\n{indent}{wrapped(texts, indent)}}}}}" if texts else "{{0}}"
+        made = self.constant(constant_, u, self.indent + " " * 8)
         self.emit("{")
         self.emit(f"    static const {declare(self.types.c(u), 'value')} = {made};")
         self.emit(f"    {text} = (unsigned char *)&value;")
         self.emit("}")
         self.name_unread(place)
+
+    def constant(self, node, t, indent):
+        """What stands behind = where a constant of the type is defined."""
+        word = head(node)
+        if word == "ints":
+            return self.constant_numbers(*parts(node, word, 2), t, indent)
+        if word == "parts":
+            return self.aggregate(self.constant_parts(items(parts(node, word, 1)[0]), t, indent), t)
+        if word == "float" or word == "copy":
+            raise Stop(f"the constant {brief(node)} is not known")
+        text, u = self.operand(node)
+        self.same(u, t, "a constant")
+        return text
+
+    def constant_numbers(self, width, values, t, indent):
+        numbers = [number(value) for value in items(values)]
+        if t[0] != "array" or t[1] != ("int", width_of(width)) or t[2] != len(numbers):
+            raise Stop(f"{len(numbers)} numbers of {width} bits are lent as {self.types.c(t)}")
+        texts = [constant(t[1][1], value) for value in numbers]
+        return f"{{{{\n{indent}{wrapped(texts, indent)}}}}}" if texts else "{{0}}"
+
+    def constant_parts(self, nodes, t, indent):
+        """Each with its type: an enum's tag and then its fields, a struct's fields, or an array's elements."""
+        shape, kinds = self.program.shape(t[1]) if t[0] == "named" else (None, [t[1]] * t[2] if t[0] == "array" else [])
+        if shape == "variants" and nodes:
+            kinds = [U8] + kinds[self.tag(self.constant(nodes[0], U8, indent), t, kinds)]
+        if len(nodes) != len(kinds):
+            raise Stop(f"a constant of {len(nodes)} parts is lent as {self.types.c(t)}")
+        return [(self.constant(node, kind, indent), kind) for node, kind in zip(nodes, kinds)]
 
     def repeat(self, text, t, x, count):
         value, u = self.operand(x)
@@ -427,7 +477,7 @@ class Function:
             raise Stop(f"{n} elements of {self.types.c(t)}")
         self.same(u, t[1], "a repeated element")
         if n == 0:
-            self.emit(f"{text} = {self.aggregate([], t)};")
+            self.emit(f"{text} = ({self.types.c(t)}){self.aggregate([], t)};")
             return
         self.emit("{")
         self.emit(f"    {declare('const ' + self.types.c(u), 'value')} = {value};")
@@ -509,7 +559,7 @@ class Function:
         text, t = self.place(place, written=True)
         self.same(other.locals[0], t, f"the result of {path}")
         self.calls.append(path)
-        made = f"{c_name(path)}({', '.join(texts)})"
+        made = f"{self.types.names.of(path)}({', '.join(texts)})"
         if t == UNIT:
             self.emit(f"{made};")
         elif text.startswith("("):
@@ -521,18 +571,21 @@ class Function:
     # -- the whole
 
     def translate(self, exported):
-        """Twice: the second time it is known which locals are read at all."""
         try:
-            self.statement(self.body)
-            self.again()
-            self.statement(self.body)
+            return self.whole(exported)
         except Stop as problem:
             raise Stop(f"{self.path}: {problem}") from None
+
+    def whole(self, exported):
+        """Its statements twice: the second time it is known which locals are read at all."""
+        self.statement(self.body)
+        self.again()
+        self.statement(self.body)
         inside = [k for k in sorted(self.used | {0}) if not 1 <= k <= self.params and self.locals[k] != UNIT]
         variables = [f"    {declare(self.types.c(self.locals[k]), f'l{k}')};" for k in inside]
         unread = [f"    (void)l{k};" for k in range(1, self.params + 1) if k not in self.read and self.locals[k] != UNIT]
         parameters, made = self.lent() if exported else (self.parameters(), [])
-        title = self.path.split("::")[-1] if exported else c_name(self.path)
+        title = self.path.split("::")[-1] if exported else self.types.names.of(self.path)
         opening = f"{'' if exported else 'static '}{declare(self.types.c(self.locals[0]), title)}("
         lines = made + variables + unread + self.lines
         return f"/* {self.path} */\n{opening}{wrapped(parameters, '    ', len(opening))}) {{\n" + "\n".join(lines) + "\n}\n"
@@ -545,14 +598,14 @@ class Function:
         """An export's parameters, a pointer and a size_t for each slice, and the slices that are made of them."""
         parameters, made = [], []
         for k, t in enumerate(self.locals[1:1 + self.params], 1):
-            if t[0] == "slice":
+            if t[0] == "slice" and t[2][0] != "named":
                 const = "const " if t[1] == "imm" else ""
                 parameters += [f"{const}{declare(self.types.c(t[2]), f'*a{k}')}", f"size_t a{k}_len"]
                 made.append(f"    struct slice l{k} = lent(a{k}, a{k}_len);")
             elif t[0] in ("int", "float"):
                 parameters.append(declare(self.types.c(t), f"l{k}"))
             else:
-                raise Stop(f"{self.path}: an export with a parameter of type {self.types.c(t)}")
+                raise Stop(f"an export with a parameter of type {self.types.c(t)}")
         return parameters or ["void"], made
 
 
@@ -563,7 +616,7 @@ def leaves(node):
     if head(node) == "if":
         _, yes, no = parts(node, "if", 3)
         return leaves(yes) and leaves(no)
-    return node == "return" or head(node) == "exit"
+    return node in ("return", "unreachable") or head(node) == "exit"
 
 
 # ---- the file
@@ -592,16 +645,13 @@ class File:
         for found in reached:
             part = last if has_float(found) else first
             part.update({path: both for path, both in found.items() if path not in first})
-        titles = [c_name(path) for path in first | last]
-        if len(set(titles)) != len(titles):
-            raise Stop("two functions would have one name in C")
         with open(os.path.join(os.path.dirname(os.path.abspath(__file__)), "head.c"), encoding="utf-8") as file:
             text = file.read() + "\n".join(self.types.texts) + "\n"
         text += helpers(used_by(first)) + "\n".join(body for _, body in first.values())
         if last:
             text += "\n#ifndef ALBA_NO_DOUBLE\n#include <float.h>\n\n" + helpers(used_by(last) - used_by(first))
             text += "\n".join(body for _, body in last.values()) + "\n#endif\n"
-        return text
+        return fewer(text)
 
 
 def has_float(found):

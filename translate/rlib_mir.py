@@ -2,18 +2,24 @@
 """
 The proved MIR of built libraries as the text that mir_to_c.py reads: `rlib_mir.py EXPORT.. -- MIR.json.. > MIR`. A library of Rattle has its
 MIR in its rlib, in toolchain/mir.json: a list of pairs, a function's path and what it is. Printed are the functions that the exports reach,
-and no others, each with the types that it declares.
+and no others, each with the declared types that it holds. What is generic is printed once for each list of arguments, as instances.py says;
+the export itself takes none. The operand NumOf, the number that a parameter stands for, is an int then.
 
 Nothing is added or left out but what the logic gives no meaning: names of lifetimes, and bounds. In mir.json a body is one list, each
 statement before its parts, and a place, a value or a type is a word or an object with one key, its form; in the text each is a list in
 parentheses. The names of forms are those of mir_to_c.py's head.
 
-What is generic, or of a form that isn't known here, ends the run with a message.
+What is of a form that isn't known here ends the run with a message, and so does a call that is known only when the program runs: of a dyn, or
+of a function by its address.
 """
 import json
 import sys
 
+from instances import Instances, form, looked_at, spelled
 from mir import Stop
+
+# How often a function may stand within itself, at other arguments.
+MOST_WITHIN = 16
 
 
 def small(word):
@@ -26,15 +32,6 @@ def chain(kind, texts):
     for text in reversed(list(texts)):
         made = f"({kind}cons {text} {made})"
     return made
-
-
-def form(node):
-    """The form of a node, and what it holds: nothing where it is a word."""
-    if isinstance(node, str):
-        return node, None
-    if isinstance(node, dict) and len(node) == 1:
-        return next(iter(node.items()))
-    raise Stop(f"{str(node)[:80]} is no form of mir.json")
 
 
 def unknown(what, node):
@@ -56,20 +53,16 @@ def of_type(node):
         return f"(tyArray {of_type(held[0])} (lenLit {form(held[1])[1]}))"
     if word == "Struct":
         return f'(tyStruct "{held[0]}" {chain("t", map(of_type, held[1]))})'
-    if word == "Named" and not held[1]:
-        return f'(tyNamed (pair "{held[0]["name"]}" lnil))'
+    if word == "Named":
+        return f'(tyNamed (pair "{spelled(node)}" lnil))'
     raise unknown("type", node)
 
 
-def declared(node):
-    if node["type_params"] or node["const_params"]:
-        return None
-    word, held = form(node["shape"])
+def declared(title, shape):
+    word, held = form(shape)
     if word == "Fields":
-        return f'(pair "{node["name"]}" (fields {chain("t", map(of_type, held))}))'
-    if word == "Variants":
-        return f'(pair "{node["name"]}" (variants {chain("tt", (chain("t", map(of_type, fields)) for fields in held))}))'
-    raise unknown("shape", node["shape"])
+        return f'(pair "{title}" (fields {chain("t", map(of_type, held))}))'
+    return f'(pair "{title}" (variants {chain("tt", (chain("t", map(of_type, fields)) for fields in held))}))'
 
 
 # ---- places, operands, values
@@ -97,6 +90,12 @@ def operand(node):
         return f"(int {held['width']} {held['value']})"
     if word == "Float":
         return f"(float {held['width']} {held['bits']})"
+    if word == "NumOf" and form(held[1])[0] == "Const":
+        return f"(int {held[0]} {form(held[1])[1]})"
+    if word == "SizeOf":
+        return f"(sizeOf {of_type(held)})"
+    if word in ("Vtable", "FnAddr"):
+        raise Stop("a dyn or a function's address is taken, and which function is called must be known before the program runs")
     raise unknown("operand", node)
 
 
@@ -126,10 +125,10 @@ def value(node):
 # ---- functions
 
 class Body:
-    """A function's statements, read one after the other, and the paths that it calls."""
+    """A function's statements, read one after the other, and what it calls."""
 
-    def __init__(self, nodes):
-        self.nodes, self.at, self.calls = nodes, 0, []
+    def __init__(self, nodes, instances):
+        self.nodes, self.instances, self.at, self.calls = nodes, instances, 0, []
 
     def whole(self):
         text = self.statement()
@@ -149,7 +148,7 @@ class Body:
                 self.at += 1
                 texts.append(self.statement())
             return "".join(f"(seq {text} " for text in texts) + self.statement() + ")" * len(texts)
-        if word in ("Skip", "Return"):
+        if word in ("Skip", "Return", "Unreachable"):
             return small(word)
         if word in ("Block", "Loop"):
             return f"({small(word)} {self.statement()})"
@@ -167,15 +166,21 @@ class Body:
             return self.call(*held)
         raise unknown("statement", {word: held})
 
-    @staticmethod
-    def lent(constant):
-        """Numbers of one width, one by one or one of them repeated."""
+    @classmethod
+    def lent(cls, constant):
+        """Numbers of one width in a list, one by one or one of them repeated; the parts of other constants each by itself."""
         word, held = form(constant)
         if word == "Ints":
             return f"(ints {held['width']} {chain('l', map(str, held['values']))})"
         if word == "Repeat" and form(held[0])[0] == "Int":
             one = form(held[0])[1]
             return f"(ints {one['width']} {chain('l', [str(one['value'])] * held[1])})"
+        if word in ("Parts", "Repeat"):
+            return f"(parts {chain('l', map(cls.lent, held if word == 'Parts' else [held[0]] * held[1]))})"
+        if word == "Int":
+            return f"(int {held['width']} {held['value']})"
+        if word in ("Bool", "Unit"):
+            return "unit" if word == "Unit" else small(str(held))
         raise unknown("constant", constant)
 
     def switch(self, on, keys, has_default):
@@ -184,43 +189,48 @@ class Body:
         return f"(switch {operand(on)} {''.join(arms)}{default}{')' * len(arms)})"
 
     def call(self, callee, arguments, to):
-        word, held = form(callee)
-        if word != "Fn":
-            raise unknown("call", callee)
-        path, types = held[0], held[1]["types"]
-        if types:
-            raise Stop(f"{path} is called at the types {json.dumps(types)[:80]}, and generic functions are not read")
-        self.calls.append(path)
-        return f'(call (direct (fnRef "{path}")) {chain("l", map(operand, arguments))} {place(to)})'
+        called = self.instances.called(callee)
+        self.calls.append(called)
+        return f'(call (direct (fnRef "{self.instances.name(*called)}")) {chain("l", map(operand, arguments))} {place(to)})'
 
 
 class Functions:
-    """Those of some libraries, by their paths."""
+    """Those of some libraries, by their paths, and the texts of those that are printed, by their names."""
 
     def __init__(self, files):
-        self.items, self.texts = {}, {}
+        self.items, self.instances, self.texts = {}, Instances(), {}
         for file in files:
             with open(file, encoding="utf-8") as opened:
                 self.items.update(json.load(opened))
 
-    def print(self, path):
-        """The function, and before it what it calls."""
-        if path in self.texts:
+    def print(self, path, types=(), dicts=(), around=()):
+        """The function at these arguments, and before it what it calls."""
+        name = self.instances.name(path, list(types), list(dicts))
+        if name in self.texts:
             return
-        self.texts[path] = ""
+        if around.count(path) > MOST_WITHIN:
+            raise Stop(f"{path} is called within itself at ever more arguments: {name[:80]}..")
+        self.texts[name] = ""
         if path not in self.items:
             raise Stop(f"there is no function {path}")
-        item = self.items[path]
         try:
-            body = Body(item["body"])
-            made = body.whole()
-            locals_ = chain("l", (f"(local {of_type(local['ty'])} {small(local['home'])})" for local in item["locals"]))
-            types = chain("l", filter(None, map(declared, item["types"])))
+            text, calls = self.function(name, self.items[path], types, dicts)
         except Stop as problem:
-            raise Stop(f"{path}: {problem}") from None
-        for callee in body.calls:
-            self.print(callee)
-        self.texts[path] = f'(fn-def "{path}" (fnItem {item["lifetimes"]} lnil {item["params"]} {locals_} {made}) {types})'
+            raise Stop(f"{name}: {problem}") from None
+        for called in calls:
+            self.print(*called, around + (path,))
+        self.texts[name] = text
+
+    def function(self, name, item, types, dicts):
+        self.instances.learn(item)
+        locals_, nodes = self.instances.at(item, types, dicts)
+        body = Body(nodes, self.instances)
+        made = body.whole()
+        shapes = self.instances.shapes([local["ty"] for local in locals_] + looked_at(nodes))
+        variables = chain("l", (f"(local {of_type(local['ty'])} {small(local['home'])})" for local in locals_))
+        kinds = chain("l", (declared(title, shape) for title, shape in shapes.items()))
+        text = f'(fn-def "{name}" (fnItem {item["lifetimes"]} lnil {item["params"]} {variables} {made}) {kinds})'
+        return text, body.calls
 
 
 def main(arguments):

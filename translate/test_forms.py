@@ -62,8 +62,15 @@ def call(path, arguments, target):
 U8, U16, U32, U64, BOOL, F32, F64 = "(tyInt 8)", "(tyInt 16)", "(tyInt 32)", "(tyInt 64)", "tyBool", "(tyFloat 32)", "(tyFloat 64)"
 PAIR, ENUM, EMPTY = (f'(tyNamed (pair "forms::{name}" lnil))' for name in ("Pair", "Enum", "Empty"))
 SLICE = f'(tyStruct "&[]" (tcons (tyRef erased mut {U32}) (tcons {U64} tnil)))'
-TYPES = " " + chain("l", [f'(pair "forms::Pair" (fields {chain("t", [U8, "tyUnit", U64])}))', '(pair "forms::Empty" (fields tnil))',
-                          f'(pair "forms::Enum" (variants {chain("tt", ["tnil", chain("t", [U32]), chain("t", [U8, U64])])}))'])
+
+
+def declared(*more):
+    """These types, and those of some functions alone."""
+    return " " + chain("l", [f'(pair "forms::Pair" (fields {chain("t", [U8, "tyUnit", U64])}))', '(pair "forms::Empty" (fields tnil))',
+                             f'(pair "forms::Enum" (variants {chain("tt", ["tnil", chain("t", [U32]), chain("t", [U8, U64])])}))', *more])
+
+
+TYPES = declared()
 functions, checks = [], []
 
 
@@ -382,6 +389,92 @@ def arrays():
             check(f"lent_{width}", (i,), x)
 
 
+def elements():
+    """A struct and an enum in arrays, of parts and repeated, each read over the bytes that the logic gives it."""
+    some = '(tyNamed (pair "forms::Some" lnil))'
+    types = declared(f'(pair "forms::Some" (variants {chain("tt", ["tnil", chain("t", [U32])])}))')
+    functions.append(function("structs", 2, [U64, U64, U64, PAIR, f"(tyArray {PAIR} (lenLit 3))", "tyPtr", "tyPtr", PAIR], seq(
+        put(3, f"(aggregate {chain('l', [u(8, 1), 'unit', copy(1)])})"), put(7, f"(aggregate {chain('l', [u(8, 2), 'unit', u(64, 99)])})"),
+        put(4, f"(aggregate {chain('l', [copy(3), copy(7), copy(3)])})"), put(5, f"(addrOf {place(4)})"),
+        put(0, f"(op2 (mul unsigned) {copy(2)} (sizeOf {PAIR}))"), put(6, f"(op2 offset {copy(5)} {copy(0)})"),
+        put(0, opd(copy(6, f"(deref {PAIR})", "(field 2)"))), "return"), types))
+    for i, x in enumerate((1 << 40, 99, 1 << 40)):
+        check("structs", (1 << 40, i), x)
+    some_at = copy(7, f"(deref {some})", "(variant 1)", "(field 1)")
+    arms = f"(arm (lcons 0 lnil) {put(0, opd(u(32, 5)))} (arm (lcons 1 lnil) {put(0, opd(some_at))} noDefault))"
+    functions.append(function("enums", 3, [U32, U32, U64, U64, some, f"(tyArray {some} (lenLit 4))", "tyPtr", "tyPtr", U64], seq(
+        put(4, f"(aggregate {chain('l', [u(8, 0)])})"), put(5, f"(repeat {copy(4)} 4)"), put(6, f"(addrOf {place(5)})"),
+        put(8, f"(op2 (mul unsigned) {copy(2)} {u(64, 8)})"), put(7, f"(op2 offset {copy(6)} {copy(8)})"),
+        put(7, f"(aggregate {chain('l', [u(8, 1), copy(1)])})", f"(deref {some})"),
+        put(8, f"(op2 (mul unsigned) {copy(3)} (sizeOf {some}))"), put(7, f"(op2 offset {copy(6)} {copy(8)})"),
+        f"(switch {copy(7, f'(deref {some})', '(variant 0)', '(field 0)')} {arms})", "return"), types))
+    for i, k in itertools.product(range(4), repeat=2):
+        check("enums", (77, i, k), 77 if i == k else 5)
+
+
+def constants():
+    """Those that are lent and have parts: a struct with a unit within; an enum at each of its tags; an array of arrays."""
+    pair, enums = f"(parts {chain('l', [u(8, 200), 'unit', u(64, 1 << 40)])})", [[], [u(32, 77)], [u(8, 9), u(64, 1 << 50)]]
+    functions.append(function("lent_pair", 0, [U64, "tyPtr", U64], seq(
+        f"(lendStatic {place(1)} {PAIR} {pair})", put(2, f"(op1 (cast unsigned unsigned 64) {copy(1, f'(deref {PAIR})', '(field 0)')})"),
+        put(0, f"(op2 (add unsigned) {copy(2)} {copy(1, f'(deref {PAIR})', '(field 2)')})"), "return"), TYPES))
+    check("lent_pair", (), 200 + (1 << 40))
+    for k, fields in enumerate(enums):
+        read = copy(1, f"(deref {ENUM})", f"(variant {k})", f"(field {k})")
+        last = f"(op1 (cast unsigned unsigned 64) {read})" if k else opd(u(64, 5))
+        functions.append(function(f"lent_enum_{k}", 0, [U64, "tyPtr", U64], seq(
+            f"(lendStatic {place(1)} {ENUM} (parts {chain('l', [u(8, k), *fields])}))", put(2, last),
+            put(0, f"(op1 (cast unsigned unsigned 64) {copy(1, f'(deref {ENUM})', '(variant 0)', '(field 0)')})"),
+            plus(0, copy(2)), "return"), TYPES))
+        check(f"lent_enum_{k}", (), k + (5, 77, 1 << 50)[k])
+    rows = chain("l", [f"(ints 16 {chain('l', map(str, row))})" for row in ((1, 2), (65535, 4), (5, 6))])
+    functions.append(function("lent_rows", 1, [U16, U64, "tyPtr", U64], seq(
+        f"(lendStatic {place(2)} (tyArray (tyArray {U16} (lenLit 2)) (lenLit 3)) (parts {rows}))",
+        put(3, f"(op2 (mul unsigned) {copy(1)} {u(64, 2)})"), put(2, f"(op2 offset {copy(2)} {copy(3)})"),
+        put(0, opd(copy(2, f"(deref {U16})"))), "return")))
+    for i, x in enumerate((1, 2, 65535, 4, 5, 6)):
+        check("lent_rows", (i,), x)
+    bits = chain("l", ["true", "false", "true"])
+    functions.append(function("lent_bools", 1, [BOOL, U64, "tyPtr"], seq(
+        f"(lendStatic {place(2)} (tyArray {BOOL} (lenLit 3)) (parts {bits}))", put(2, f"(op2 offset {copy(2)} {copy(1)})"),
+        put(0, opd(copy(2, f"(deref {BOOL})"))), "return")))
+    for i, x in enumerate((1, 0, 1)):
+        check("lent_bools", (i,), x)
+
+
+def instances():
+    """One generic type and one generic function at some types, of which two have one last name, and one is nothing in C."""
+    def one(path):
+        return f'(tyNamed (pair "{path}" lnil))'
+    # The type, what is made of the parameter, what is read of the field, and its width.
+    kept = {"u8": (U8, opd(copy(1)), [], 8), "u64": (U64, opd(copy(1)), [], 64), "unit": ("tyUnit", opd("unit"), None, 64),
+            "forms::One": (one("forms::One"), f"(aggregate {chain('l', [copy(1)])})", ["(field 0)"], 8),
+            "forms::b::One": (one("forms::b::One"), f"(aggregate {chain('l', [copy(1)])})", ["(field 0)"], 64),
+            "mut_ref<u64>": (f"(tyRef erased mut {U64})", f"(addrOf {place(1)})", [f"(deref {U64})"], 64)}
+    types = " " + chain("l", [f'(pair "forms::One" (fields {chain("t", [U8])}))', f'(pair "forms::b::One" (fields {chain("t", [U64])}))'] + [
+        f'(pair "forms::Some<{name}>" (variants {chain("tt", ["tnil", chain("t", [t])])}))' for name, (t, *_) in kept.items()])
+    for k, (name, (t, made, steps, width)) in enumerate(kept.items()):
+        some = one(f"forms::Some<{name}>")
+        functions.append(function(f"kept<{name}>", 1, [some, t], seq(
+            put(0, f"(aggregate {chain('l', [u(8, 1), copy(1)])})"), "return"), types))
+        read = u(64, 9) if steps is None else copy(3, "(variant 1)", "(field 1)", *steps)
+        functions.append(function(f"kept_{k}", 1, [U64, f"(tyInt {width})", t, some], seq(
+            put(2, made), call(f"kept<{name}>", [copy(2)], place(3)), put(0, f"(op1 (cast unsigned unsigned 64) {read})"), "return"), types))
+        check(f"kept_{k}", (200,), 9 if steps is None else 200)
+
+
+def nothing():
+    """The address of a unit, which is read and written through it; and what is never reached."""
+    functions.append(function("unit_at", 1, [U64, U64, "tyUnit", "tyPtr", "tyUnit"], seq(
+        put(2, opd("unit")), put(3, f"(addrOf {place(2)})"), put(4, opd(copy(3, "(deref tyUnit)"))), put(3, opd(copy(4)), "(deref tyUnit)"),
+        put(3, f"(addrOf {place(3, '(deref tyUnit)')})"), put(0, opd(copy(1))), "return")))
+    check("unit_at", (7,), 7)
+    never = f"(arm (lcons 1 lnil) {put(2, opd(u(32, 8)))} (arm (lcons 2 lnil) unreachable (default {put(2, opd(u(32, 9)))})))"
+    functions.append(function("never", 1, [U32, U32, U32], seq(f"(switch {copy(1)} {never})", put(0, opd(copy(2))), "return")))
+    check("never", (1,), 8)
+    check("never", (3,), 9)
+
+
 def slices():
     """Exports that are lent slices: the lengths, 0 with null; an element read at its place; one written, and then the first read."""
     at = [put(4, f"(op2 (mul unsigned) {copy(2)} {u(64, 4)})"), put(3, f"(op2 offset {copy(1, '(field 0)')} {copy(4)})")]
@@ -444,7 +537,7 @@ def run(compiler, folder):
         unaries(width)
         casts(width)
         switches(width)
-    for group in (bools, floats, statements, places, memory, arrays, slices):
+    for group in (bools, floats, statements, places, memory, arrays, elements, constants, instances, nothing, slices):
         group()
     names = sorted({name for name, _, _ in checks})
     with open(f"{folder}/telescope.h", "w", encoding="utf-8") as file:
@@ -464,11 +557,12 @@ def run(compiler, folder):
     return subprocess.run([f"{folder}/forms"], check=False).returncode
 
 
-def refused():
-    """Texts that are no MIR, or MIR that has no C99, each with a word of the message."""
-    def one(result, rvalue, *params):
-        return program([function("one", len(params), [result, *params], seq(put(0, rvalue), "return"))])
-    texts = {
+def one(result, rvalue, *params, types=""):
+    return program([function("one", len(params), [result, *params], seq(put(0, rvalue), "return"), types)])
+
+
+def texts_of_forms():
+    return {
         one("(tyInt 128)", opd(u(64, 1))): "128 bits", one(U8, opd(u(8, 256))): "doesn't fit", one(U8, opd(u(16, 1))): "uint16_t",
         one(F64, f"(op2 floatRem {copy(1)} {copy(1)})", F64): "floatRem", one(U64, f"(op1 ptrAddr {copy(1)})", "tyPtr"): "ptrAddr",
         one(BOOL, f"(op2 ptrEq {copy(1)} {copy(1)})", "tyPtr"): "ptrEq", one(U8, f"(op2 (add odd) {copy(1)} {copy(1)})", U8): "odd",
@@ -482,7 +576,7 @@ def refused():
         one('(tyNamed (pair "forms::No" lnil))', "(aggregate lnil)"): "forms::No",
         one(U8, opd("true")): "assignment", program([function("one", 0, [U8], "((seq))")]): "not known",
         program([function("one", 0, [U8, PAIR], seq(put(0, opd(copy(1, "(field 3)"))), "return"), TYPES)]): "no such field",
-        one(f"(tyArray {PAIR} (lenLit 2))", "(aggregate lnil)"): "elements", one(U8, opd(copy(1, "(index 0)")), U8): "index",
+        one("(tyArray tyPtr (lenLit 2))", "(aggregate lnil)"): "elements of type address", one(U8, opd(copy(1, "(index 0)")), U8): "index",
         program([function("one", 0, [U8], "(exit 0)")]): "exit 0", program([function("one", 0, [U8], "(jump 1)")]): "jump",
         program([function("one", 0, [U8], seq(call("one", [], place(0)), "return"))]): "circle",
         program([function("one", 0, [U8], '(call (foreign "abs") lnil (place 0 lnil))')]): "direct",
@@ -491,6 +585,32 @@ def refused():
         program([function("one", 0, [U8, "tyPtr"], f"(lendStatic {place(1)} (tyArray {U8} (lenLit 2)) (ints 8 (lcons 1 lnil)))")]): "1 numbers",
         program([function("one", 0, [U8, "tyPtr"], f"(lendStatic {place(1)} {U8} (ints 8 (lcons 1 lnil)))")]): "are lent as uint8_t",
     }
+
+
+def texts_of_types():
+    """Constants that are lent, elements, and names of instances."""
+    def lent(kind, nodes):
+        return program([function("one", 0, [U8, "tyPtr"], f"(lendStatic {place(1)} {kind} (parts {chain('l', nodes)}))", TYPES)])
+
+    def sized(kind):
+        return one(U64, opd(f"(sizeOf {kind})"), types=declared(f'(pair "forms::Lent" (fields {chain("t", [SLICE])}))'))
+    named_alike = ("b_T", "b_a_T", "b<a::T>")
+    others = [function(name, 0, [U8], seq(put(0, opd(u(8, 1))), "return")) for name in named_alike]
+    return {
+        lent(PAIR, [u(8, 1), "unit"]): "a constant of 2 parts is lent as struct forms_Pair", lent(U8, [u(8, 1)]): "a constant of 1 parts",
+        lent(PAIR, [u(8, 1), u(8, 1), u(64, 1)]): "uint8_t where void is due", lent(ENUM, [u(8, 3)]): "no constant of its own",
+        lent(ENUM, []): "a constant of 0 parts", lent(ENUM, [copy(0)]): "the constant (copy", lent(F64, []): "an aggregate of double",
+        sized("tyPtr"): "elements of type address", sized("tyUnit"): "elements of type unit", sized(ENUM): "16 bytes in MIR and 24 in C",
+        sized(EMPTY): "0 bytes in MIR and 1 in C", sized('(tyNamed (pair "forms::Lent" lnil))'): "an element with an address within",
+        one('(tyNamed (pair "forms::{No}" lnil))', "(aggregate lnil)"): "a path of names",
+        program([function("one", 1, [U8, SLICE.replace(U32, PAIR)], "return", TYPES)]): "an export with a parameter of type struct slice",
+        program([function("one", 0, [U8], seq(*(call(name, [], place(0)) for name in named_alike), "return")), *others]): "one name in C",
+    }
+
+
+def refused():
+    """Texts that are no MIR, or MIR that has no C99, each with a word of the message."""
+    texts = texts_of_forms() | texts_of_types()
     failed = 0
     for text, due in texts.items():
         try:

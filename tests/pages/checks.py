@@ -21,7 +21,7 @@ Wrong = tuple[str, int, str]
 MOST_IN_A_ROW = 400
 SECONDS = 120
 # The pages of what was: their paths and names may be gone.
-OF_THE_PAST = ("docs/CHANGES.md", "docs/PORT.md")
+OF_THE_PAST = ("docs/CHANGES.md", "docs/PORT.md", "docs/DESIGN-PASS.md")
 # The page with blocks by indent that are no commands.
 INDENTED = ("CONTRIBUTING.md",)
 # Names of the Rust that nothing here has.

@@ -4,13 +4,11 @@
 // No function that is seen outside asks anything of its caller.
 #![tactic(auto)]
 
+mod argument;
 mod numbers;
-mod report;
 mod settings;
 mod words;
 
-pub use numbers::{ReadDigest, digest, whole_within};
-pub use settings::{
-    Asked, Figures, Reading, each_by_itself, no_figures, security_figures, settings_for, small_case,
-};
-pub use words::{count, is_word, path, say_argument};
+pub use argument::Argument;
+pub use settings::{Figures, PastLimits, Reading};
+pub use words::{count, is_word, say_argument};

@@ -1,12 +1,12 @@
 -- The second list's places that are added, one place after the other; and the source that they make.
-use Rattle.std.proofs.Common.{◌≡◌, ℕ, ◌+◌, ◌<◌, ◌≤◌, true, false, List, [], ◌∷◌, ◌++◌, map, length, get_or, take, set, sym, refl, ap, ◌∙◌, subst, ⊎_elim, eq-or-lt_of_le, add-one, arith, length-append, length-set, length-take-le, take_all, get_or-set_other, get_or-take, get_or-set_same, take-suc-set}
+use Rattle.std.proofs.Common.{◌≡◌, ℕ, ◌+◌, ◌<◌, ◌≤◌, true, false, List, [], ◌∷◌, ◌++◌, map, length, get_or, take, set, sym, refl, ap, ◌∙◌, subst, ⊎_elim, eq-or-lt_of_le, add-one, arith, length-append, length-set, length-take-le, take_all, get_or-set_other, get_or-set_same, take-suc-set}
 use mathlib.Core.List.{map-append}
 use lib.ListN.{length-map}
 use Rattle.centralized_telescope.specs.core.Lists.{some_of}
 use Rattle.centralized_telescope.specs.core.Elements.{Element, elements, element_at, list_check, Lent, max_elements}
 use Rattle.centralized_telescope.specs.later.Distinct.{same_element}
 use Rattle.centralized_telescope.specs.later.Pool.{added_to, pool}
-use Rattle.centralized_telescope.specs.inner.Source.{Source, meant, Readable}
+use Rattle.centralized_telescope.specs.inner.Source.{Source, meant}
 use Rattle.centralized_telescope.specs.inner.Pooling.{Adding, AddedAre}
 use Rattle.centralized_telescope.specs.laws.ElementsLaws.{length_elements, few_elements}
 use Rattle.centralized_telescope.specs.laws.PoolLaws.{added_same, added_one, added_front}
@@ -102,14 +102,6 @@ module _ (first second : Lent) (A : list_check first ≡ 0) (B : list_check seco
 
   long : length (take k ws) ≡ k
   long = length-take-le k ws (omega (arith, P.few, P.room))
-
-  pub pool_readable : Readable source
-  pool_readable = record {
-    first_accepted = A;
-    second_accepted = B;
-    few_added = omega (arith, long, P.few);
-    added_there = λ i l. rw (get_or-take k ws i 0 (omega (arith, long))) (P.there i (omega (arith, long)));
-  }
 
   pub pool_meant : meant source ≡ pool first second
   pool_meant = ap (λ (xs : List Element). elements first ++ xs) P.are

@@ -1,18 +1,15 @@
 -- Writing blocks: the check of a body, a block made at its place, and one block more in front of those that are.
-use Rattle.std.proofs.Common.{◌≡◌, ℕ, suc, ◌+◌, ◌-◌, ◌*◌, ◌<◌, ◌≤◌, List, [], ◌++◌, length, take, drop, sym, ap, ◌∙◌, append_assoc, append-nil, arith, length-append, length-drop, take-append-drop, length-take, length-take-le, take_all, drop-drop, take_at, take-add, drop_at}
-use lib.Seq.{paste, paste-zero, take-paste, drop-paste}
+use Rattle.std.proofs.Common.{◌≡◌, ℕ, suc, ◌+◌, ◌-◌, ◌*◌, ◌<◌, ◌≤◌, List, Result, Ok, [], ◌++◌, length, take, drop, sym, ap, ◌∙◌, append_assoc, append-nil, arith, length-append, length-drop, take-append-drop, length-take, length-take-le, take_all, drop-drop, take_at, take-add, drop_at}
+use lib.Seq.{paste, take-paste, drop-paste}
 use Rattle.sampling.specs.core.Fips180.{sha256}
-use Rattle.sampling.specs.core.Hash.{hashed}
-use Rattle.sampling.specs.laws.HashLaws.{length_sha256}
+use Rattle.sampling.specs.core.Hash.{hashed, hashed_by}
+use Rattle.sampling.specs.declared.sha256.TooLong.{TooLong}
 use Rattle.centralized_telescope.specs.later.Blocks.{body_check, sealed, body_bytes, block_bytes, check_bytes}
 use Rattle.centralized_telescope.specs.laws.BlocksLaws.{length_check}
 use Rattle.centralized_telescope.specs.laws.BlocksReadLaws.{part_front}
 use Rattle.centralized_telescope.proofs.RoundHashes.{digest_is}
 
 -- ---- a part more of a list copied to its offset in a buffer
-
-pub copied_none : (d s : List ℕ) (at : ℕ) → d ≡ take at d ++ (take 0 s ++ drop (at + 0) d)
-copied_none d s at = paste-zero d at s ∙ append_assoc (take at d) (take 0 s) (drop (at + 0) d)
 
 pub copied_more : (d s : List ℕ) (at k n : ℕ) → at ≤ length d → k + n ≤ length s
     → (o p r : List ℕ) → o ≡ take at d ++ (take k s ++ drop (at + k) d) → p ≡ take n (drop k s) → length p ≡ n
@@ -44,16 +41,13 @@ part_copied from n t r h R = R ∙ part_taken from n t
 
 -- ---- the check of a body
 
-module _ (body digest : List ℕ) (k : ℕ) (l : length body ≡ body_bytes) (e : (k, digest) ≡ hashed (body ++ [])) where
-  digest_of_body : digest ≡ sha256 body
-  digest_of_body = rw append-nil at (digest_is body [] [] [] digest k (omega arith) e)
+module _ (body : List ℕ) (r : Result (List ℕ) TooLong) (l : length body ≡ body_bytes) (e : hashed_by r ≡ hashed (body ++ [])) where
+  pub digest_of_body : r ≡ Ok (sha256 body)
+  digest_of_body = rw append-nil at (digest_is body [] [] [] r (omega arith) e)
 
-  pub digest_long : length digest ≡ 32
-  digest_long = ap length digest_of_body ∙ length_sha256 body
-
-  pub check_is : (r : List ℕ) → r ≡ take 8 digest → r ≡ body_check body
+  pub check_is : (digest r : List ℕ) → r ≡ take 8 digest → digest ≡ sha256 body → r ≡ body_check body
   unfolding body_check
-  check_is r R = R ∙ ap (take 8) digest_of_body
+  check_is digest r R D = R ∙ ap (take 8) D
 
 -- ---- a block made at its place, in two parts
 

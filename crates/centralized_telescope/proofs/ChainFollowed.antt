@@ -1,12 +1,12 @@
 -- The chain of a proof's elements, followed a place at a time: what one place settles, and what it leaves to the places behind it.
-use Rattle.std.proofs.Common.{◌≡◌, ℕ, suc, ◌+◌, ◌<◌, ◌≤◌, true, false, T, List, [], ◌∷◌, length, drop, sym, refl, ◌∙◌, subst, add-one, drop_of_length-le, drop-cons}
+use Rattle.std.proofs.Common.{◌≡◌, ℕ, suc, ◌+◌, ◌<◌, ◌≤◌, List, [], ◌∷◌, length, drop, refl, ◌∙◌, add-one, drop_of_length-le, drop-cons, eq-eqb, ne_eqb}
 use mathlib.Core.Option.{Option, none, some}
-use Rattle.sampling.specs.declared.sample.U128.{U128}
 use Rattle.centralized_telescope.specs.declared.params.Params.{Params}
+use Rattle.centralized_telescope.specs.declared.round.Round.{Round}
 use Rattle.centralized_telescope.specs.core.Elements.{Element, element_at}
 use Rattle.centralized_telescope.specs.core.Rounds.{start_hash, next_hash, round_id, bin_of}
-use Rattle.centralized_telescope.specs.core.Verifier.{if_some, follow, last_hash, yes_on}
-use Rattle.centralized_telescope.specs.inner.Following.{is_nowhere, is_met, followed_from}
+use Rattle.centralized_telescope.specs.core.Verifier.{if_some, follow, last_hash}
+use Rattle.centralized_telescope.specs.inner.Following.{round_with, followed}
 
 element_next : (es : List Element) (place : ℕ) → place < length es → drop place es ≡ element_at es place ∷ drop (suc place) es
 unfolding element_at
@@ -18,52 +18,44 @@ module _ (p : Params) (R : ℕ) where
 
   -- ---- one round
 
-  -- the start round, with the hash h
-  pub from_start : (S : ℕ) (h : List ℕ) → h ≡ start_hash R S → (g : List ℕ) (o : Option ℕ) → (g ≡ h) × (o ≡ round_id N h)
-      → (es : List Element) → followed_from p R g o es ≡ last_hash p R S es
-  unfolding last_hash
-  from_start S h e g o r es = rw (r.0, r.1, e)
-
-  -- the round behind the one with the hash h and the id o, by an element with the bin b
-  module _ (h : List ℕ) (b : Option ℕ) (e : Element) (B : b ≡ bin_of N R e) (es : List Element) where
-    after_met : (o : Option ℕ) → is_met b o ≡ true
-        → followed_from p R (next_hash h e) (round_id N (next_hash h e)) es ≡ followed_from p R h o (e ∷ es)
-    unfolding follow if_some
-    after_met none t = absurd (subst T (sym t) tt)
-    after_met (some i) t = rw (← B, t)
-
-    pub bin_met : (o : Option ℕ) → is_met b o ≡ true → (g : List ℕ) → g ≡ next_hash h e → (f : List ℕ) (j : Option ℕ)
-        → (f ≡ g) × (j ≡ round_id N g)
-        → followed_from p R f j es ≡ followed_from p R h o (e ∷ es)
-    bin_met o t g G f j r = rw (r.0, r.1, G) (after_met o t)
-
-    pub bin_missed : (o : Option ℕ) → is_met b o ≡ false → (f : List ℕ) → followed_from p R f none es ≡ followed_from p R h o (e ∷ es)
-    unfolding follow if_some
-    bin_missed none t f = refl
-    bin_missed (some i) t f = rw (← B, t)
-
-  -- no round, and the end of the chain
-  pub nowhere : (h : List ℕ) (o : Option ℕ) → is_nowhere o ≡ true → (es : List Element) → followed_from p R h o es ≡ none
+  by_id : (h : List ℕ) (o : Option ℕ) (es : List Element) → followed p R (round_with h o) es ≡ if_some o (λ (i : ℕ). follow p R h i es)
   unfolding if_some
-  nowhere h none t es = refl
-  nowhere h (some i) t es = absurd (subst T (sym t) tt)
+  by_id h none es = refl
+  by_id h (some i) es = refl
 
-  pub at_end : (h : List ℕ) (o : Option ℕ) → is_nowhere o ≡ false → followed_from p R h o [] ≡ some h
-  unfolding follow if_some
-  at_end h none t = absurd (subst T t tt)
-  at_end h (some i) t = refl
+  -- the start round, with the hash h
+  pub from_start : (S : ℕ) (h : List ℕ) → h ≡ start_hash R S → (r : Option Round) → r ≡ round_with h (round_id N h)
+      → (es : List Element) → followed p R r es ≡ last_hash p R S es
+  unfolding last_hash
+  from_start S h e r E es = rw (E, e) (by_id (start_hash R S) (round_id N (start_hash R S)) es)
+
+  -- the round behind the one with the hash h and the id i, by an element with the bin b
+  module _ (h : List ℕ) (i : ℕ) (e : Element) (es : List Element) where
+    pub no_bin : none ≡ bin_of N R e → none ≡ follow p R h i (e ∷ es)
+    unfolding follow
+    no_bin B = rw (← B)
+
+    module _ (b : ℕ) (B : some b ≡ bin_of N R e) where
+      pub other_bin : (b ≡ i → ⊥) → none ≡ follow p R h i (e ∷ es)
+      unfolding follow
+      other_bin d = rw (← B, ne_eqb b i d)
+
+      pub bin_met : b ≡ i → (g : List ℕ) → g ≡ next_hash h e → (r : Option Round) → r ≡ round_with g (round_id N g)
+          → followed p R r es ≡ follow p R h i (e ∷ es)
+      unfolding follow
+      bin_met t g G r E = rw (← B, eq-eqb b i t, E, G) (by_id (next_hash h e) (round_id N (next_hash h e)) es)
 
   -- ---- the last hash x of the chain, seen from the round reached, behind which the elements from a place on are left
 
-  module _ (h : List ℕ) (o : Option ℕ) (es : List Element) (place : ℕ) (x : Option (List ℕ))
-      (F : followed_from p R h o (drop place es) ≡ x) where
-    pub chain_lost : is_nowhere o ≡ true → (y : U128) → false ≡ yes_on y x
-    chain_lost t y = rw (sym F ∙ nowhere h o t (drop place es))
+  module _ (h : List ℕ) (i : ℕ) (es : List Element) (place : ℕ) (x : Option (List ℕ)) (F : follow p R h i (drop place es) ≡ x) where
+    pub one_followed : place < length es → (e : Element) → e ≡ element_at es place → (r : Option Round)
+        → ((rest : List Element) → followed p R r rest ≡ follow p R h i (e ∷ rest))
+        → followed p R r (drop (place + 1) es) ≡ x
+    one_followed l e E r f = rw (add-one place) (f (drop (suc place) es) ∙ rw (E, ← element_next es place l) F)
 
-    pub one_followed : place < length es → (e : Element) → e ≡ element_at es place → (g : List ℕ) (j : Option ℕ)
-        → ((rest : List Element) → followed_from p R g j rest ≡ followed_from p R h o (e ∷ rest))
-        → followed_from p R g j (drop (place + 1) es) ≡ x
-    one_followed l e E g j r = rw (add-one place) (r (drop (suc place) es) ∙ rw (E, ← element_next es place l) F)
-
-    pub all_followed : length es ≤ place → followed_from p R h o [] ≡ x
+    pub all_followed : length es ≤ place → some h ≡ x
+    unfolding follow
     all_followed l = rw (drop_of_length-le es {i = place} l) at F
+
+-- the next round, by the bin
+pub ruleset next_told = (no_bin, other_bin, bin_met)

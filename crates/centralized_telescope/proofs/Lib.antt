@@ -33,7 +33,6 @@ mod BinBuilding
 mod BinSpans
 -- search.rt
 mod TableFacts
-mod Measure
 mod Walked
 mod Turn
 mod OneTry
@@ -43,7 +42,7 @@ mod BinListing
 mod ManyTries
 -- telescope.rt, theorems.rt
 mod ProveAnswers
--- proof_list.rt
+-- proof_list.rt; ProofWriting ticket.rt too
 mod ProofWriting
 mod ProofAnswers
 -- blocks.rt
@@ -52,8 +51,6 @@ mod BlockReading
 -- order.rt
 mod Comparing
 -- sort.rt
-mod Merging
-mod Halves
 -- pool.rt
 mod Sought
 mod AddedPlaces
@@ -72,7 +69,6 @@ mod NumbersRead
 mod ExportAnswers
 -- element_bytes.rt
 mod ElementWriting
-mod GatheringBytes
 -- preparing.rt
 mod RunHashing
 mod PrepareAnswers

@@ -28,3 +28,6 @@ number_at (suc n) k bytes zero h = ap (λ (j : ℕ). big_endian k (drop j bytes)
 number_at (suc n) k bytes (suc i) h =
     number_at n k (drop k bytes) i (omega arith)
     ∙ ap (big_endian k) (drop-drop (k * i) k bytes ∙ ap (λ (j : ℕ). drop j bytes) (add_comm k (k * i) ∙ sym (mul-suc k i)))
+
+-- how many there are, and each
+pub ruleset numbers_told = (length_numbers_in, number_at)

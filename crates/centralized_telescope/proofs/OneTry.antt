@@ -2,21 +2,23 @@
 use Rattle.std.proofs.Common.{◌≡◌, ℕ, zero, suc, ◌+◌, ◌-◌, ◌<◌, ◌≤◌, List, [], sym, refl, ap, ◌∙◌, arith}
 use mathlib.Core.Option.{none, some}
 use native.Mathlib.Nat.{sub-zero}
-use Rattle.centralized_telescope.specs.declared.search.Outcome.{Outcome}
-use Rattle.centralized_telescope.specs.declared.search.Outcome.TheVariants as outcome
-use Rattle.centralized_telescope.specs.declared.search.Attempt.TheVariants as attempt
-use Rattle.centralized_telescope.specs.declared.round.Id.{Id}
-use Rattle.centralized_telescope.specs.declared.round.Id.TheVariants as id
+use Rattle.std.specs.Prelude.{Some, None}
+use Rattle.std.specs.Prelude.{Option as Answer}
+use Rattle.std.specs.declared.ops.ControlFlow.{ControlFlow}
+use Rattle.std.specs.declared.ops.ControlFlow.TheVariants.{Break, Continue}
 use Rattle.centralized_telescope.specs.core.Lists.{over}
 use Rattle.centralized_telescope.specs.core.Rounds.{start_hash}
 use Rattle.centralized_telescope.specs.core.Chains.{Try, Chain}
 use Rattle.centralized_telescope.specs.core.Search.{id_of, grown, chains, chains_at, chains_from, passing}
-use Rattle.centralized_telescope.specs.inner.RoundAnswers.{id_option}
+use Rattle.centralized_telescope.specs.inner.Held.{option_of}
 use Rattle.centralized_telescope.specs.laws.SearchLaws.{same_search}
 use Rattle.centralized_telescope.specs.laws.TryLaws.{id_below}
 use Rattle.centralized_telescope.specs.inner.Walk.{Ended, found, missing, walk}
 use Rattle.centralized_telescope.specs.laws.WalkLaws.{walk_full, and_then, walk_append, walk_among}
 use Rattle.centralized_telescope.specs.inner.Visit.{visited, tried, attempt_of, written, written_from, VisitEnds, TryEnds}
+use Rattle.centralized_telescope.specs.declared.round.Round.{Round}
+use Rattle.centralized_telescope.specs.inner.Following.{round_with}
+use Rattle.centralized_telescope.proofs.Walked.{Drawn, round_drawn, round_missing}
 use Rattle.centralized_telescope.proofs.Walked.{visited_bound, visited_own, missing_of, Finds, found_of, stopped}
 use Rattle.centralized_telescope.proofs.Walked.{written_short, written_full, written_none}
 
@@ -75,37 +77,35 @@ module _ (T : Try) where
 
 -- at the search counter S: mid are the lent places as they are, old as they were
 pub record Trying (T : Try) (S count : ℕ) (mid old : List ℕ) : Type 0 where
-  pub low : S ≤ T.settings.search_width
   pub most : count ≤ bound T
   pub as_lent : mid ≡ old
   pub still : whole T ≡ tried T (T.settings.search_width - S) S count
 
 pub try_begins : (T : Try) (old : List ℕ) → Trying T 0 0 old old
 try_begins T old = record {
-  low = omega arith;
   most = omega arith;
   as_lent = refl;
   still = ap (λ (w : ℕ). tried T w 0 0) (sym (sub-zero T.settings.search_width));
 }
 
 module _ {T : Try} {S count : ℕ} {mid old : List ℕ} (k : Trying T S count mid old) where
-  pub all_tried : T.settings.search_width ≤ S → TryEnds (whole T) (attempt.Missing count) old mid
+  pub all_tried : T.settings.search_width ≤ S → TryEnds (whole T) (Continue count) old mid
   all_tried l = stopped attempt_of (k.still ∙ tried_end T _ S count (omega arith)) k.as_lent
 
-  pub bound_reached : bound T ≤ count → TryEnds (whole T) (attempt.Missing count) old mid
+  pub bound_reached : bound T ≤ count → TryEnds (whole T) (Continue count) old mid
   bound_reached l = stopped attempt_of (k.still ∙ tried_full T _ S count l) k.as_lent
 
 -- ---- a turn
 
--- what it knows, where the start hash g is made and the id d is drawn from it
-pub record Starting (T : Try) (S count : ℕ) (mid old : List ℕ) (g : List ℕ) (d : Id) : Type 0 where
+-- what it knows, where the start hash g is made and the round d is drawn from it
+pub record Starting (T : Try) (S count : ℕ) (mid old : List ℕ) (g : List ℕ) (d : Answer Round) : Type 0 where
   pub head : Trying T S count mid old
   pub inside : S < T.settings.search_width
   pub within : count < bound T
   pub hash_is : g ≡ start_hash T.retry S
-  pub id_is : id_option d ≡ id_of T g
+  pub round_is : option_of d ≡ round_with g (id_of T g)
 
-module _ {T : Try} {S count : ℕ} {mid old : List ℕ} {g : List ℕ} {d : Id} (k : Starting T S count mid old g d) where
+module _ {T : Try} {S count : ℕ} {mid old : List ℕ} {g : List ℕ} {d : Answer Round} (k : Starting T S count mid old g d) where
   -- how many search counters there are behind this one
   abbrev behind : ℕ
   behind = T.settings.search_width - (S + 1)
@@ -116,35 +116,39 @@ module _ {T : Try} {S count : ℕ} {mid old : List ℕ} {g : List ℕ} {d : Id} 
       k.head.still ∙ ap (λ (u : ℕ). tried T u S count) more
 
   -- the round doesn't exist, and the loop's variables are as they were
-  pub try_nothing : d ≡ id.Nowhere → (count' : ℕ) (mid' : List ℕ) → count' ≡ count → mid' ≡ mid → Trying T (S + 1) count' mid' old
+  pub try_nothing : d ≡ None → (count' : ℕ) (mid' : List ℕ) → count' ≡ count → mid' ≡ mid → Trying T (S + 1) count' mid' old
   try_nothing q count' mid' C M = rw (C, M) (record {
-    low = omega (arith, k.inside);
     most = k.head.most;
     as_lent = k.head.as_lent;
-    still = opened ∙ tried_nothing T behind S count (rw (← k.hash_is, ← k.id_is, q));
+    still = opened ∙ tried_nothing T behind S count (rw (← k.hash_is) (round_missing T g d k.round_is q));
   })
 
-  -- it exists, with the id i, and its visit answers o and leaves the lent places as `last`
-  module _ {i : ℕ} (q : d ≡ id.At i) where
+  -- it exists, it is r, and its visit answers o and leaves the lent places as `last`
+  module _ {r : Round} (q : d ≡ Some r) where
     abbrev below : Ended Chain
-    below = visited T S g i [] 0 count
+    below = visited T S r.hash r.id [] 0 count
 
-    module _ {o : Outcome} {last : List ℕ} (said : VisitEnds T.settings 0 below o mid last) where
-      drawn : id_of T g ≡ some i
-      drawn = sym k.id_is ∙ ap id_option q
+    known : Drawn T g r
+    known = round_drawn T g d k.round_is q
+
+    module _ {o : ControlFlow ℕ ℕ} {last : List ℕ} (said : VisitEnds T.settings 0 below o mid last) where
+      drawn : id_of T r.hash ≡ some r.id
+      drawn = rw known.hash_is known.id_is
+
+      start_is : r.hash ≡ start_hash T.retry S
+      start_is = known.hash_is ∙ k.hash_is
 
       left : last ≡ written_from T.settings 0 below old
       left = said.places_are ∙ ap (written_from T.settings 0 below) k.head.as_lent
 
-      pub try_missing : {t : ℕ} → o ≡ outcome.Missing t → (count' : ℕ) (mid' : List ℕ) → count' ≡ t → mid' ≡ last
+      pub try_missing : {t : ℕ} → o ≡ Continue t → (count' : ℕ) (mid' : List ℕ) → count' ≡ t → mid' ≡ last
           → Trying T (S + 1) count' mid' old
       try_missing {t} e count' mid' C M =
           let m : below ≡ missing t = missing_of below t (sym e ∙ said.answer_is) in
           rw (C, M) (record {
-            low = omega (arith, k.inside);
-            most = rw m at (visited_bound T S g i [] 0 count (omega (arith, k.within)));
+            most = rw m at (visited_bound T S r.hash r.id [] 0 count (omega (arith, k.within)));
             as_lent = left ∙ written_none T.settings 0 below old t m;
-            still = opened ∙ tried_missing T behind S count i t (rw (← k.hash_is) drawn) (rw (← k.hash_is) m);
+            still = opened ∙ tried_missing T behind S count r.id t (rw (← start_is) drawn) (rw (← start_is) m);
           })
 
       -- places are written, and at length 0 there are none
@@ -154,17 +158,17 @@ module _ {T : Try} {S count : ℕ} {mid old : List ℕ} {g : List ℕ} {d : Id} 
         where
           go : (u : ℕ) → T.settings.proof_size ≡ u → written_from T.settings 0 below old ≡ over c.places old
           go zero z =
-              let own : c.places ≡ [] = ap (λ (x : Chain). x.places) (visited_own T S g i [] 0 count t c (sym z) e) in
+              let own : c.places ≡ [] = ap (λ (x : Chain). x.places) (visited_own T S r.hash r.id [] 0 count t c (sym z) e) in
               written_full T.settings 0 below old (omega arith) ∙ rw own
           go (suc u) z = written_short T.settings 0 below old (omega arith) ∙ ap (λ (y : Ended Chain). written y old) e
 
-      pub try_found : {t : ℕ} → o ≡ outcome.Found t → TryEnds (whole T) (attempt.Found (record { 0 = S }) t) old last
+      pub try_found : {t : ℕ} → o ≡ Break t → TryEnds (whole T) (Break (record { 0 = S }, t)) old last
       unfolding written
       try_found {t} e =
           let f : Finds below t = found_of below t (sym e ∙ said.answer_is) in
           let ends : whole T ≡ found t f.chain =
-          opened ∙ tried_found T behind S count i t f.chain (rw (← k.hash_is) drawn) (rw (← k.hash_is) f.ends_with) in
+          opened ∙ tried_found T behind S count r.id t f.chain (rw (← start_is) drawn) (rw (← start_is) f.ends_with) in
           record {
-            answer_is = rw (ends, found_search T S g i count t f.chain drawn f.ends_with);
+            answer_is = rw (ends, found_search T S r.hash r.id count t f.chain drawn f.ends_with);
             places_are = rw ends (left ∙ all_written t f.chain f.ends_with);
           }

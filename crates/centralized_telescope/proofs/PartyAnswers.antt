@@ -1,35 +1,33 @@
 -- What a party is answered, by the lines that it meets, and by what its try gives.
-use Rattle.std.proofs.Common.{◌≡◌, ℕ, ◌+◌, ◌*◌, ◌<◌, ◌≤◌, Bool, true, false, cond, not, eqb, List, [], ◌∷◌, ◌++◌, length, take, drop, sym, refl, ap, ◌∙◌, arith, take-append-drop, length-take, take_at, eq-eqb, ne_eqb, eqb-true, le-leb}
+use Rattle.std.proofs.Common.{◌≡◌, ℕ, ◌+◌, ◌*◌, ◌≤◌, Bool, true, false, cond, not, eqb, List, [], ◌∷◌, length, take, drop, sym, refl, ap, ◌∙◌, arith, length-take, take_at, eq-eqb, ne_eqb, eqb-true}
 use mathlib.Core.Option.{some, none}
-use borrow.Author.Tests.{lt-leb}
 use Rattle.sampling.specs.core.FirstNumber.{line, first_number}
 use Rattle.sampling.specs.laws.FirstNumberLaws.{number_met, second_met, two_passed, number_last, number_none}
 use Rattle.centralized_telescope.specs.declared.errors.Refusal.{Refusal}
 use Rattle.centralized_telescope.specs.declared.errors.Refusal.TheVariants as refusal
 use Rattle.centralized_telescope.specs.declared.params.Params.{Params}
-use Rattle.centralized_telescope.specs.declared.search.Attempt.{Attempt}
-use Rattle.centralized_telescope.specs.declared.search.Attempt.TheVariants as attempt
-use Rattle.centralized_telescope.specs.declared.search.ProofSearch.TheVariants as answer
+use Rattle.std.specs.declared.ops.ControlFlow.{ControlFlow}
+use Rattle.std.specs.declared.ops.ControlFlow.TheVariants.{Break, Continue}
+use Rattle.centralized_telescope.specs.declared.search.Search.TheVariants as answer
 use Rattle.centralized_telescope.specs.declared.round.RetryCounter.{RetryCounter}
 use Rattle.centralized_telescope.specs.declared.round.SearchCounter.{SearchCounter}
 use Rattle.centralized_telescope.specs.core.Refusals.{refusal_number}
-use Rattle.centralized_telescope.specs.core.Params.{checked}
-use Rattle.centralized_telescope.specs.core.Elements.{Element, elements, list_check, Lent}
+use Rattle.centralized_telescope.specs.core.Elements.{Element, elements, Lent}
 use Rattle.centralized_telescope.specs.core.Bins.{table_of, bin_table}
 use Rattle.centralized_telescope.specs.core.Chains.{Try, try_of, Chain}
 use Rattle.centralized_telescope.specs.core.Search.{bin_list, try_count, try_finds}
-use Rattle.centralized_telescope.specs.core.Prover.{Proved, answer_of, refused, answered, proved_by, prover_refusal}
+use Rattle.centralized_telescope.specs.core.Prover.{Proved, answer_of, refused, answered, search_by, prover_refusal}
 use Rattle.centralized_telescope.specs.later.Words.{same_bytes}
 use Rattle.centralized_telescope.specs.later.TwoProducts.{table_right, by_try, party_refusal, tried_alone}
 use Rattle.centralized_telescope.specs.inner.Seeing.{early_refusal}
-use Rattle.centralized_telescope.specs.inner.Source.{meant}
+use Rattle.centralized_telescope.specs.inner.Source.{Source, meant}
+use Rattle.centralized_telescope.specs.inner.TryTables.{try_on, HasTable}
 use Rattle.centralized_telescope.specs.core.Lists.{over}
-use Rattle.centralized_telescope.specs.inner.Visit.{tried, written, Ready, TryEnds}
+use Rattle.centralized_telescope.specs.inner.Visit.{tried, written, TryEnds}
 use Rattle.centralized_telescope.specs.inner.Walk.{Ended, missing, counted, find}
 use Rattle.centralized_telescope.specs.laws.BinsLaws.{length_table}
 use Rattle.centralized_telescope.specs.laws.DistinctLaws.{same_bytes_lem}
 use Rattle.centralized_telescope.specs.laws.RefusalsLaws.{refusal_number_lem}
-use Rattle.centralized_telescope.specs.laws.SourceLaws.{alone, one_readable, one_meant}
 use Rattle.centralized_telescope.specs.laws.TryLaws.{length_bin_list}
 use Rattle.centralized_telescope.proofs.ManyTries.{missing_try, found_try, count_is, finds_is}
 use Rattle.centralized_telescope.proofs.OneTry.{whole}
@@ -57,12 +55,12 @@ module _ (p : Params) (lent : Lent) (places_len table_len R R' : ℕ) where
   run_met k e = number_met run (line 47 (not (eqb R R')) ∷ []) (refusal_number k) e (refusal_number_lem k)
 
   module _ (e : run ≡ 0) where
-    pub retry_met : (R ≡ R' → ⊥) → early ≡ 47
-    retry_met n = second_met run (line 47 (not (eqb R R'))) [] 47 e (rw (ne_eqb R R' n)) (refusal_number_lem refusal.OtherRetry)
+    pub retry_met : not (eqb R R') ≡ true → early ≡ 47
+    retry_met n = second_met run (line 47 (not (eqb R R'))) [] 47 e (rw n) (refusal_number_lem refusal.OtherRetry)
 
-    pub none_early : R ≡ R' → early ≡ 0
+    pub none_early : not (eqb R R') ≡ false → early ≡ 0
     unfolding first_number
-    none_early s = two_passed run (line 47 (not (eqb R R'))) [] e (rw (eq-eqb R R' s))
+    none_early s = two_passed run (line 47 (not (eqb R R'))) [] e (rw s)
 
   pub record Early : Type 0 where
     pub run_passed : run ≡ 0
@@ -97,53 +95,40 @@ module _ (n R : ℕ) (es : List Element) where
   unfolding table_right
   compared table own now r e s = s ∙ ap (same_bytes (take (3 * n + 1) table)) (filled_front own now e)
 
-  pub right_is : (table : List ℕ) → table_right n R es table ≡ true → table ≡ table_of n bins ++ drop (3 * n + 1) table
+  pub right_is : (table : List ℕ) → table_right n R es table ≡ true
+      → take (length (table_of n bins)) table ≡ table_of n bins
   unfolding table_right
-  right_is table t =
-      sym (take-append-drop (3 * n + 1) table)
-      ∙ ap (λ (l : List ℕ). l ++ drop (3 * n + 1) table) (same_bytes_lem (take (3 * n + 1) table) (table_of n bins) t)
+  right_is table t = rw (length_table n bins few) (same_bytes_lem (take (3 * n + 1) table) (table_of n bins) t)
 
--- a table that was filled from the list alone
-module _ (lent : Lent) (n R : ℕ) (own now : List ℕ) (e : now ≡ bin_table n (bin_list n R (take (2 * n) (meant (alone lent)))) own) where
-  filled : now ≡ bin_table n (bins n R (elements lent)) own
-  filled = e ∙ ap (λ (es : List Element). bin_table n (bin_list n R (take (2 * n) es)) own) (one_meant lent)
-
-  pub filled_long : length (take (3 * n + 1) now) ≡ 3 * n + 1
-  filled_long =
-      ap length (filled_front n R (elements lent) own now filled)
-      ∙ length_table n (bins n R (elements lent)) (few n R (elements lent))
+-- a table that was filled from a source of these elements
+module _ (s : Source) (es : List Element) (M : meant s ≡ es) (n R : ℕ) (own now : List ℕ)
+    (e : now ≡ bin_table n (bin_list n R (take (2 * n) (meant s))) own) where
+  filled : now ≡ bin_table n (bins n R es) own
+  filled = e ∙ ap (λ (es : List Element). bin_table n (bin_list n R (take (2 * n) es)) own) M
 
   pub compared_alone : (table : List ℕ) (r : Bool) → r ≡ same_bytes (take (3 * n + 1) table) (take (3 * n + 1) now)
-      → r ≡ table_right n R (elements lent) table
-  compared_alone table r s = compared n R (elements lent) table own now r filled s
+      → r ≡ table_right n R es table
+  compared_alone table r q = compared n R es table own now r filled q
 
 -- a right table is what the try asks for
-pub right_ready : (p : Params) (lent : Lent) (R : ℕ) (table : List ℕ) (room : ℕ) → checked p ≡ 0
-    → list_check lent ≡ 0
-    → p.proof_size ≤ room
-    → table_right p.set_size R (elements lent) table ≡ true → Ready p (alone lent) R table room
-right_ready p lent R table room S A enough t = record {
-  settings = S;
-  source = one_readable lent A;
-  rest = drop (3 * p.set_size + 1) table;
-  table_is = rw (one_meant lent) (right_is p.set_size R (elements lent) table t);
-  roomy = enough;
-}
+pub right_has : (p : Params) (s : Source) (es : List Element) → meant s ≡ es → (R : ℕ) (table : List ℕ)
+    → table_right p.set_size R es table ≡ true → HasTable p s R table
+right_has p s es M R table t = rw M (right_is p.set_size R es table t)
 
 -- ---- the try's end
 
-module _ (p : Params) (lent : Lent) (R : RetryCounter) (places table after : List ℕ) (r : Attempt)
-    (ends : TryEnds (tried (try_of p (meant (alone lent)) R.0) p.search_width 0 0) r places after) where
+module _ (p : Params) (s : Source) (es : List Element) (M : meant s ≡ es) (R : RetryCounter) (places table after : List ℕ)
+    (r : ControlFlow (SearchCounter × ℕ) ℕ) (ends : TryEnds (tried (try_on p s R.0) p.search_width 0 0) r places after) where
   abbrev T : Try
-  T = try_of p (elements lent) R.0
+  T = try_of p es R.0
 
   abbrev due : Proved
-  due = by_try p (elements lent) R.0 places table
+  due = by_try p es R.0 places table
 
   ended : TryEnds (whole T) r places after
-  ended = rw (one_meant lent) at ends
+  ended = rw M at ends
 
-  pub alone_found : (S : SearchCounter) (count : ℕ) → r ≡ attempt.Found S count → proved_by (answer.Found R S count) after table ≡ due
+  pub alone_found : (S : SearchCounter) (count : ℕ) → r ≡ Break (S, count) → search_by (answer.Found R S count) after table ≡ due
   unfolding answered written
   alone_found S count e =
       let f = found_try (whole T) S count (sym e ∙ ended.answer_is) in
@@ -154,27 +139,14 @@ module _ (p : Params) (lent : Lent) (R : RetryCounter) (places table after : Lis
       (ap (λ (s : ℕ). answer_of 0 R.0 s count (over f.chain.places places) table) f.search_is)
 
   -- nothing is found after so many
-  module _ (count : ℕ) (e : r ≡ attempt.Missing count) where
-    missed : whole T ≡ missing count
-    missed = missing_try (whole T) count (sym e ∙ ended.answer_is)
-
-    none_found : try_finds T ≡ none
-    none_found = sym (finds_is T) ∙ ap find missed
-
-    counts : try_count T ≡ count
-    counts = sym (count_is T) ∙ ap counted missed
-
-    left : after ≡ places
-    unfolding written
-    left = ended.places_are ∙ ap (λ (w : Ended Chain). written w places) missed
-
-    pub alone_in_bounds : p.dfs_bound ≤ count → proved_by (answer.NotFoundInBounds count) after table ≡ due
-    unfolding answered
-    alone_in_bounds l = rw (left, none_found, counts, le-leb p.dfs_bound count l)
-
-    pub alone_not_found : count < p.dfs_bound → proved_by (answer.NotFound count) after table ≡ due
-    unfolding answered
-    alone_not_found l = rw (left, none_found, counts, lt-leb p.dfs_bound count l)
+  pub alone_missing : (count : ℕ) → r ≡ Continue count → answered p none 0 count after table ≡ due
+  unfolding answered written
+  alone_missing count e =
+      let missed : whole T ≡ missing count = missing_try (whole T) count (sym e ∙ ended.answer_is) in
+      let nothing : try_finds T ≡ none = sym (finds_is T) ∙ ap find missed in
+      let counts : try_count T ≡ count = sym (count_is T) ∙ ap counted missed in
+      let left : after ≡ places = ended.places_are ∙ ap (λ (w : Ended Chain). written w places) missed in
+      rw (left, nothing, counts) refl
 
 -- ---- the answer
 
@@ -218,12 +190,5 @@ module _ (p : Params) (lent : Lent) (R R' : ℕ) (table places : List ℕ) where
     pub party_served : right ≡ true → tried_alone lent R' table p R places ≡ by_try p (elements lent) R' places table
     party_served t = its_try (last_line ∙ rw t)
 
--- ---- both
-
--- what is known of the table for so many bins is known for as many
-pub seen_for : (lent : Lent) (R : ℕ) (table : List ℕ) (m n : ℕ) (r : Bool) → m ≡ n → r ≡ table_right m R (elements lent) table
-    → r ≡ table_right n R (elements lent) table
-seen_for lent R table m n r e s = s ∙ ap (λ (k : ℕ). table_right k R (elements lent) table) e
-
-pub both_are : {a a' b b' : Proved} → a ≡ a' → b ≡ b' → ◌≡◌ {A = Proved × Proved} (a, b) (a', b')
-both_are e f = cc
+-- a party's refusals before the table is looked at
+pub ruleset party_told = (run_met, retry_met, none_early)

@@ -1,22 +1,23 @@
 -- The calls on a pool by their answers: what is refused, the size, the lookup and the prover.
-use Rattle.std.proofs.Common.{◌≡◌, ℕ, ◌+◌, ◌-◌, ◌<◌, ◌≤◌, ltb, List, [], length, take, sym, ap, ◌∙◌, subst, arith, length-take-le, ltb-false, le-ltb, lt-ltb, eq-eqb, ne_eqb}
+use Rattle.std.proofs.Common.{◌≡◌, ℕ, ◌<◌, ◌≤◌, ltb, List, [], length, take, ap, ◌∙◌, subst, arith, ltb-false, le-ltb, lt-ltb, eq-eqb, ne_eqb}
 use Rattle.sampling.specs.core.FirstNumber.{line, first_number}
 use Rattle.sampling.specs.laws.FirstNumberLaws.{number_met, second_met, two_passed, number_last, number_none}
 use Rattle.centralized_telescope.specs.declared.errors.Refusal.{Refusal}
 use Rattle.centralized_telescope.specs.declared.errors.Refusal.TheVariants as refusal
 use Rattle.centralized_telescope.specs.declared.params.Params.{Params}
-use Rattle.centralized_telescope.specs.declared.pool.PoolSize.{PoolSize}
-use Rattle.centralized_telescope.specs.declared.pool.PoolSize.TheVariants as is
-use Rattle.centralized_telescope.specs.core.Refusals.{refusal_number}
+use Rattle.centralized_telescope.specs.core.Refusals.{refusal_number, answer_number}
 use Rattle.centralized_telescope.specs.laws.RefusalsLaws.{refusal_number_lem}
 use Rattle.centralized_telescope.specs.laws.TestLaws.{unsaid}
 use Rattle.centralized_telescope.specs.core.Params.{checked}
 use Rattle.centralized_telescope.specs.core.Elements.{element_at, list_check, Lent, max_elements}
 use Rattle.centralized_telescope.specs.core.Prover.{refused, by_search, room_refusals}
-use Rattle.centralized_telescope.specs.later.Pool.{pool, pool_refusal, pool_size, pool_size_by, pool_data, pool_prover_refusal, proved_pool}
-use Rattle.centralized_telescope.specs.inner.Source.{Source, meant, Readable, CanRead}
-use Rattle.centralized_telescope.specs.inner.Pooling.{AddedAre, Pooled, PooledInto}
-use Rattle.centralized_telescope.proofs.AddedPlaces.{pool_length, pool_readable, pool_meant}
+use Rattle.centralized_telescope.specs.later.Pool.{pool, pool_refusal, pool_size, pool_data, pool_prover_refusal, proved_pool}
+use Rattle.centralized_telescope.specs.inner.Source.{meant}
+use Rattle.std.specs.Prelude.{Some, None, Result, Ok, Err}
+use Rattle.std.specs.Prelude.{Option as Answer}
+use Rattle.std.specs.Option.{ok_or}
+use Rattle.centralized_telescope.specs.inner.Pooling.{AddedAre, AddedBy}
+use Rattle.centralized_telescope.proofs.AddedPlaces.{pool_length, pool_meant}
 
 module _ (first second : Lent) where
   -- ---- what is refused
@@ -47,16 +48,23 @@ module _ (first second : Lent) where
       pub none_met : length (pool first second) ≤ max_elements → pool_refusal first second ≡ 0
       none_met l = last_line ∙ rw (le-ltb max_elements (length (pool first second)) l)
 
-      pub pooled_of : (k : ℕ) (ws : List ℕ) → AddedAre first second k ws → Pooled first second (length first.ends + k) ws
-      pooled_of k ws P =
+      -- what is added, with both lists, is the pool
+      pub pool_made : (k : ℕ) (ws : List ℕ) → AddedAre first second k ws
+          → (pool_refusal first second ≡ 0) × (meant (record { first = first; second = second; added = take k ws }) ≡ pool first second)
+      pool_made k ws P =
           let e = pool_length first second A B k ws P in
-          let q : k ≡ length first.ends + k - length first.ends = omega arith in
-          record {
-            unrefused = none_met (omega (arith, P.few));
-            size_is = sym e;
-            at_least = omega arith;
-            added = subst (λ (j : ℕ). AddedAre first second j ws) q P;
-          }
+          (none_met (omega (arith, P.few)), pool_meant first second A B k ws P)
+
+      -- whether what is added was found to be too much
+      pub over_met : (found : Answer ℕ) (ws : List ℕ) (k : Refusal) → AddedBy first second found ws
+          → ok_or found refusal.PoolTooLarge ≡ Err k → pool_refusal first second ≡ refusal_number k
+      over_met (Some n) ws k e q = cc
+      over_met None ws k e q = pool_met e ∙ ap (λ (r : Result ℕ Refusal). answer_number r) q
+
+      pub all_found : (found : Answer ℕ) (ws : List ℕ) (count : ℕ) → AddedBy first second found ws
+          → ok_or found refusal.PoolTooLarge ≡ Ok count → AddedAre first second count ws
+      all_found (Some n) ws count e q = let same : n ≡ count = cc in subst (λ (k : ℕ). AddedAre first second k ws) same e
+      all_found None ws count e q = cc
 
   pub record Admitted : Type 0 where
     pub first_accepted : list_check first ≡ 0
@@ -77,10 +85,13 @@ module _ (first second : Lent) where
 
   -- ---- the size
 
-  pub size_answer : (r : PoolSize) (ws : List ℕ) → PooledInto first second r ws → pool_size_by r ≡ pool_size first second
+  pub size_refused : (k : Refusal) → pool_refusal first second ≡ refusal_number k → (refusal_number k, 0) ≡ pool_size first second
   unfolding pool_size
-  size_answer (is.Of size) ws P = rw (P.unrefused, P.size_is)
-  size_answer (is.Refused k) ws e = rw (e, ne_eqb (refusal_number k) 0 (refusal_number_lem k))
+  size_refused k e = rw (e, ne_eqb (refusal_number k) 0 (refusal_number_lem k))
+
+  pub size_served : (size : ℕ) → pool_refusal first second ≡ 0 → size ≡ length (pool first second) → (0, size) ≡ pool_size first second
+  unfolding pool_size
+  size_served size e q = rw (e, q)
 
   -- ---- the lookup
 
@@ -134,31 +145,3 @@ module _ (first second : Lent) where
         pub run_served : last ≡ 0 → proved_pool p first second places table ≡ by_search p (pool first second) places table
         unfolding proved_pool
         run_served l = rw (eq-eqb met 0 (room_decides ∙ l))
-
--- ---- the source of a pool that isn't refused
-
-module _ (first second : Lent) {size : ℕ} {ws : List ℕ} (P : Pooled first second size ws) where
-  abbrev source : Source
-  source = record { first = first; second = second; added = take (size - length first.ends) ws }
-
-  lists : Admitted first second
-  lists = admitted first second P.unrefused
-
-  pub source_readable : Readable source
-  source_readable = pool_readable first second lists.first_accepted lists.second_accepted _ ws P.added
-
-  pub source_meant : meant source ≡ pool first second
-  source_meant = pool_meant first second lists.first_accepted lists.second_accepted _ ws P.added
-
-  -- the part of the places that is read
-  pub part_within : size - length first.ends ≤ length ws
-  part_within = omega (arith, P.added.few, P.added.room)
-
-  pub part_long : size - length first.ends ≡ length (take (size - length first.ends) ws)
-  part_long = sym (length-take-le _ ws part_within)
-
-  pub in_pool : (place : ℕ) → place < size → place < length (pool first second)
-  in_pool place l = omega (arith, P.size_is)
-
-  pub source_there : (place : ℕ) → place < size → CanRead source place
-  source_there place l = record { source = source_readable; there = omega (arith, P.size_is, ap length source_meant) }

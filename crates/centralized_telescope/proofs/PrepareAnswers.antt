@@ -1,17 +1,26 @@
 -- What prepare and commit answer, by the lines that they meet.
-use Rattle.std.proofs.Common.{◌≡◌, ℕ, Bool, true, false, cond, not, eqb, List, [], length, replicate, sym, refl, eq-eqb, ne_eqb, eqb-true}
+use Rattle.std.proofs.Common.{◌≡◌, ℕ, Bool, true, false, cond, not, eqb, List, [], length, replicate, sym, refl, ap, ◌∙◌, eq-eqb, ne_eqb, eqb-true}
 use Rattle.sampling.specs.core.FirstNumber.{line, first_number}
 use Rattle.sampling.specs.laws.FirstNumberLaws.{number_met, second_met, two_passed}
 use Rattle.centralized_telescope.specs.declared.errors.Refusal.{Refusal}
 use Rattle.centralized_telescope.specs.declared.errors.Refusal.TheVariants as refusal
 use Rattle.centralized_telescope.specs.declared.params.Params.{Params}
+use Rattle.centralized_telescope.specs.declared.run.Run.{Run}
 use Rattle.centralized_telescope.specs.core.Refusals.{refusal_number}
 use Rattle.centralized_telescope.specs.core.Elements.{elements, Lent}
+use Rattle.centralized_telescope.specs.inner.Held.{held}
+use Rattle.centralized_telescope.specs.inner.Runs.{RunOf}
 use Rattle.centralized_telescope.specs.core.Prover.{refused, prover_refusal, proved}
 use Rattle.centralized_telescope.specs.later.Words.{same_bytes}
 use Rattle.centralized_telescope.specs.later.Prepare.{run_digest, prepared, commit_refusal, committed}
 use Rattle.centralized_telescope.specs.laws.RefusalsLaws.{refusal_number_lem}
 use Rattle.centralized_telescope.proofs.ProveAnswers.{run_served}
+
+-- the digest of the run that `check_run` hands on
+pub digest_of : (p : Params) (lent : Lent) (run : Run) → RunOf p lent run
+    → run_digest run.settings.params (elements (held run.list)) ≡ run_digest p (elements lent)
+digest_of p lent run R =
+    ap (λ (q : Params). run_digest q (elements (held run.list))) R.settings_are ∙ ap (λ (l : Lent). run_digest p (elements l)) R.list_is
 
 module _ (p : Params) (lent : Lent) (places_len table_len : ℕ) where
   abbrev checks : ℕ

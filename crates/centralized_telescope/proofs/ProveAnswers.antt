@@ -63,6 +63,9 @@ module _ (p : Params) (count places table : ℕ) where
         table_enough = ltb-false table (3 * p.set_size + 1) room.1;
       }
 
+-- by the tests of the room
+pub ruleset room_told = (places_met, table_met, few_met, none_met)
+
 -- ---- all refusals, with so many places and bin-table numbers lent
 
 module _ (p : Params) (lent : Lent) (places table : ℕ) where
@@ -150,3 +153,6 @@ module _ (p : Params) (lent : Lent) (places table : List ℕ) where
 
   pub found_served : answer.number ≡ 0 → Served p lent places table
   found_served n = run_lawful (passed_all n)
+
+-- by the tests of a run
+pub ruleset run_told = (settings_met, list_met, room_decides)

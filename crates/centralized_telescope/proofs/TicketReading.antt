@@ -1,14 +1,18 @@
 -- Reading a ticket: a number and an element's head out of the joined bodies, one element more of the layout, what follows the elements, and
 -- one element more read.
-use Rattle.std.proofs.Common.{◌≡◌, ℕ, suc, ◌+◌, ◌-◌, ◌*◌, ◌/◌, ◌<◌, ◌≤◌, true, false, not, ltb, List, [], ◌∷◌, ◌++◌, length, get_or, take, drop, set, sym, ap, ◌∙◌, add-one, arith, length-drop, take-append-drop, length-take-le, take_all, drop-cons, take-suc, drop-drop, take_at, le-leb}
-use borrow.Author.Tests.{lt-leb}
+use Rattle.std.proofs.Common.{◌≡◌, ℕ, suc, ◌+◌, ◌-◌, ◌*◌, ◌/◌, ◌<◌, ◌≤◌, true, false, not, ltb, List, ◌∷◌, ◌++◌, length, get_or, take, drop, sym, refl, ap, ⊎_elim, min, ◌∙◌, add-one, arith, length-drop, take-append-drop, length-take-le, take_all, drop-cons, drop-drop, take_at, le-leb}
+use borrow.Author.Tests.{lt-leb, ne_eqb}
+use Rattle.std.proofs.lemmas.Bool.{cases_eq}
+use Rattle.std.proofs.lemmas.List.{get_or_default}
 use lib.Seq.{drop-append-le}
 use Rattle.sampling.specs.core.BigEndian.{big_endian}
 use Rattle.sampling.specs.laws.BigEndianLaws.{big_endian_append}
 use Rattle.centralized_telescope.specs.core.Lists.{some_of}
 use Rattle.centralized_telescope.specs.later.Blocks.{bodies, bodies_of, body_bytes, block_bytes, max_filling}
-use Rattle.centralized_telescope.specs.core.Elements.{Element, lent_of, max_data_bytes}
-use Rattle.centralized_telescope.specs.later.ProofList.{list_over, with_buffers}
+use Rattle.centralized_telescope.specs.core.Elements.{Element, element_at, index_of, Lent, lent_of, max_data_bytes}
+use Rattle.centralized_telescope.specs.later.ProofList.{joined_data, list_over, with_buffers, buffers_short}
+use Rattle.centralized_telescope.specs.inner.BuffersHeld.{with_element}
+use Rattle.centralized_telescope.specs.inner.Held.{option_of}
 use Rattle.centralized_telescope.specs.later.Tickets.{blocks_in, element_in, elements_in, elements_part, ticket_head_bytes}
 use Rattle.centralized_telescope.specs.declared.ticket.HeadRead.{HeadRead}
 use Rattle.centralized_telescope.specs.inner.TicketReading.{mark_in, head_size, size_in, laid_out, HeadIs, all_laid_out, layout_size}
@@ -16,8 +20,8 @@ use Rattle.centralized_telescope.specs.inner.TicketReading.{data_size, LayoutIs,
 use Rattle.centralized_telescope.specs.laws.TestLaws.{refuted, both}
 use Rattle.centralized_telescope.specs.laws.BytesLaws.{number_front}
 use Rattle.centralized_telescope.specs.laws.BlocksLaws.{length_bodies}
-use Rattle.centralized_telescope.specs.laws.TicketsLaws.{ElementLaid, element_laid, elements_count, elements_more}
-use Rattle.centralized_telescope.proofs.ProofWriting.{written_more}
+use Rattle.centralized_telescope.specs.laws.TicketsLaws.{ElementLaid, element_laid, elements_count, elements_more, data_size_lem}
+use Rattle.centralized_telescope.proofs.ProofWriting.{Rooms, rooms, data_fits, rooms_now, one_written}
 
 -- ---- the joined bodies
 
@@ -56,32 +60,40 @@ laid s m z w =
 pub outside : (s : List ℕ) → (ElementLaid s → ⊥) → laid_out s ≡ false
 outside s f = refuted (laid_out s) (λ e. f (element_laid s e))
 
--- read out of a copy of the first k bytes, with others behind them
-module _ (s : List ℕ) (k : ℕ) (h : k ≤ length s) (z r : List ℕ) (C : r ≡ take 0 z ++ (take k s ++ drop (0 + k) z)) where
+-- what is read of it in an array that the bytes from its offset on were copied to, as far as they go
+pub record HeadCopied (s r : List ℕ) : Type 0 where
+  pub mark : get_or r 0 0 ≡ mark_in s
+  -- the index's number is looked at where the mark is 1
+  pub «index» : head_size s ≤ length s → mark_in s ≤ 1
+      → index_of (get_or r 0 0) (big_endian 8 (drop 1 r)) ≡ index_of (mark_in s) (big_endian 8 (drop 1 s))
+  pub size : head_size s ≤ length s → mark_in s ≤ 1 → big_endian 4 (drop (5 + 8 * get_or r 0 0 - 4) r) ≡ size_in s
+
+module _ (s z r : List ℕ) (k : ℕ) (K : k ≡ min (length s) 13) (C : r ≡ take 0 z ++ (take k s ++ drop (0 + k) z)) where
   number_there : (p j : ℕ) → p + j ≤ k → big_endian j (drop p r) ≡ big_endian j (drop p s)
   number_there p j l =
       let t = take k s in
-      let n = length-take-le k s h in
-      let d : length (drop p t) ≡ k - p = length-drop p t ∙ ap (λ (i : ℕ). i - p) n in
+      let n : length t ≡ k = length-take-le k s (omega arith) in
+      let d : length (drop p t) ≡ k - p = length-drop p t ∙ ap (λ i. i - p) n in
       rw (C, drop-append-le p t (drop (0 + k) z) (omega arith))
       (big_endian_append j (drop p t) (drop (0 + k) z) (omega arith)
       ∙ sym (big_endian_append j (drop p t) (drop k s) (omega arith))
       ∙ ap (big_endian j) (sym (drop-append-le p t (drop k s) (omega arith)) ∙ ap (drop p) (take-append-drop k s)))
 
-  pub mark_read : 1 ≤ k → get_or r 0 0 ≡ mark_in s
+  pub head_copied : 5 ≤ length s → HeadCopied s r
   unfolding big_endian
-  mark_read l = let e = number_there 0 1 (omega arith) in omega arith
-
-  module _ (m : ℕ) (M : m ≡ mark_in s) where
-    pub index_read : (v : ℕ) → 5 + 8 * m ≤ k → v ≡ big_endian (5 + 8 * m - 5) (drop 1 r) → v ≡ big_endian (8 * mark_in s) (drop 1 s)
-    index_read v l e =
-        let q : 5 + 8 * m - 5 ≡ 8 * m = omega arith in
-        rw (← M, ← q) (e ∙ number_there 1 (5 + 8 * m - 5) (omega arith))
-
-    pub size_read : (n : ℕ) → 5 + 8 * m ≤ k → n ≡ big_endian 4 (drop (5 + 8 * m - 4) r) → n ≡ size_in s
-    size_read n l e =
-        let q : 5 + 8 * m - 4 ≡ 1 + 8 * m = omega arith in
-        rw (← M, ← q) (e ∙ number_there (5 + 8 * m - 4) 4 (omega arith))
+  head_copied h =
+      let first : get_or r 0 0 ≡ mark_in s = (let e = number_there 0 1 (omega arith) in omega arith) in
+      record {
+        mark = first;
+        «index» = λ l m. rw first
+            (⊎_elim
+            (λ (one : mark_in s ≡ 1). ap (index_of (mark_in s)) (number_there 1 8 (omega arith)))
+            (λ (other : mark_in s ≡ 1 → ⊥). rw (ne_eqb (mark_in s) 1 other) refl)
+            (cases_eq (mark_in s) 1));
+        size = λ l m.
+            let q : 5 + 8 * mark_in s - 4 ≡ 1 + 8 * mark_in s = omega arith in
+            rw (first, q) (number_there (1 + 8 * mark_in s) 4 (omega arith));
+      }
 
 -- ---- the layout: the first i of `count` elements are passed, they end at an offset, and they have so many data bytes
 
@@ -167,7 +179,7 @@ module _ (t : List ℕ) (count i at : ℕ) (h : i < count) (F : Rest t count i a
   abbrev there : Element
   there = element_in (drop at (bodies_of t))
 
-  in_count : i < length (elements_of t count)
+  pub in_count : i < length (elements_of t count)
   in_count = omega (arith, elements_count count (elements_part (bodies_of t)))
 
   split : there ∷ elements_in (count - (i + 1)) (drop (at + (r.len + r.size)) (bodies_of t))
@@ -188,32 +200,52 @@ module _ (t : List ℕ) (count i at : ℕ) (h : i < count) (F : Rest t count i a
   pub rest_more : Rest t count (i + 1) (at + (r.len + r.size))
   rest_more = cc split
 
-  first_more : take (i + 1) (elements_of t count) ≡ take i (elements_of t count) ++ (there ∷ [])
-  first_more =
-      let e : get_or (elements_of t count) i there ≡ there = cc split in
-      rw (add-one i, take-suc (elements_of t count) i there in_count, e)
+  -- what the code reads of it
+  abbrev pub found : Element
+  found = record { bytes = take r.size (drop (at + r.len) (bodies_of t)); index = option_of r.«index» }
 
-  abbrev own : List ℕ
-  own = take r.size (drop (at + r.len) (bodies_of t))
-
-  own_is : own ≡ there.bytes
+  own_is : found.bytes ≡ there.bytes
   own_is = rw (← drop-drop r.len at (bodies_of t), R.len, R.size) (sym (element_laid (drop at (bodies_of t)) R.laid).own)
 
-  own_size : length own ≡ r.size
+  own_size : length found.bytes ≡ r.size
   own_size = ap length own_is ∙ (element_laid (drop at (bodies_of t)) R.laid).own_size ∙ sym R.size
 
-  pub one_read : (b n m x : List ℕ) (used : ℕ) (b' n' m' x' o : List ℕ)
-      → with_buffers 0 used (lent_of b' n' m' x') ≡ list_over (take i (elements_of t count)) (lent_of b n m x)
-      → i < length n → i < length m → i < length x
-      → o ≡ take used b' ++ (own ++ drop (used + r.size) b')
-      → with_buffers 0 (used + r.size) (lent_of o (set n' i (used + r.size)) (set m' i r.mark) (set x' i r.«index»))
-      ≡ list_over (take (i + 1) (elements_of t count)) (lent_of b n m x)
-  one_read b n m x used b' n' m' x' o W N M X C =
-      let f = element_laid (drop at (bodies_of t)) R.laid in
-      rw (first_more, ← own_size)
-      (written_more (take i (elements_of t count)) there b n m x i used b' n' m' x' own o r.mark r.«index» W
-      (length-take-le i (elements_of t count) (omega (arith, in_count))) N M X own_is (R.mark ∙ sym f.mark) (R.index ∙ sym f.number)
-      (rw own_size C))
+  found_is : found ≡ element_at (elements_of t count) i
+  unfolding element_at
+  found_is =
+      let e : get_or (elements_of t count) i there ≡ there = cc split in
+      let same : found ≡ there = rw (own_is, R.«index», ← (element_laid (drop at (bodies_of t)) R.laid).index) refl in
+      same ∙ sym e ∙ get_or_default (elements_of t count) i _ _ in_count
 
-pub all_read : (t : List ℕ) (count i : ℕ) → count ≤ i → take i (elements_of t count) ≡ elements_of t count
-all_read t count i h = take_all i (elements_of t count) (omega (arith, elements_count count (elements_part (bodies_of t))))
+  module _ (buffers : Lent) (room : Rooms (length (elements_of t count)) (length (joined_data (elements_of t count))) buffers)
+      (now : Lent) (used : ℕ) (W : with_buffers 0 used now ≡ list_over (take i (elements_of t count)) buffers) where
+    pub found_rooms : Rooms (length (elements_of t count)) (length (joined_data (elements_of t count))) now
+    found_rooms = rooms_now (elements_of t count) buffers room i in_count now used W
+
+    pub found_fits : used + r.size ≤ length now.bytes
+    found_fits =
+        omega (
+          arith,
+          found_rooms.data_room,
+          data_fits (elements_of t count) buffers room i in_count now used W,
+          own_size,
+          ap (λ (e : Element). length e.bytes) found_is,
+        )
+
+    pub one_read : (o : List ℕ) → o ≡ take used now.bytes ++ (found.bytes ++ drop (used + r.size) now.bytes)
+        → (after : Lent) → after ≡ with_element i (used + r.size) found.index (lent_of o now.ends now.marks now.indexes)
+        → with_buffers 0 (used + r.size) after ≡ list_over (take (i + 1) (elements_of t count)) buffers
+    one_read o C after A =
+        rw (← own_size)
+        (one_written (elements_of t count) buffers room i in_count now used W found found_is o (rw own_size C) after (rw own_size A))
+
+-- the room that was looked for is that of the elements
+pub room_found : (t : List ℕ) (count : ℕ) (buffers : Lent) → all_laid_out count (elements_part (bodies_of t)) ≡ true
+    → buffers_short count (data_size count (elements_part (bodies_of t))) buffers ≡ false
+    → Rooms (length (elements_of t count)) (length (joined_data (elements_of t count))) buffers
+room_found t count buffers L h =
+    rw (elements_count count (elements_part (bodies_of t)), ← data_size_lem count (elements_part (bodies_of t)) L)
+    (rooms count (data_size count (elements_part (bodies_of t))) buffers h)
+
+pub all_read : (t : List ℕ) (count i : ℕ) → count ≤ i → length (elements_of t count) ≤ i
+all_read t count i h = omega (arith, elements_count count (elements_part (bodies_of t)))

@@ -1,32 +1,33 @@
 -- The walk's loop: what holds at its head, and a turn of it in the terms that the code's calls give.
-use Rattle.std.proofs.Common.{◌≡◌, ℕ, ◌+◌, ◌<◌, ◌≤◌, List, [], ◌∷◌, ◌++◌, length, get_or, take, drop, set, sym, ap, ◌∙◌, subst, le_refl, add-one, arith, length-set, length-take-le}
+use Rattle.std.proofs.Common.{◌≡◌, ℕ, ◌+◌, ◌<◌, ◌≤◌, List, [], ◌∷◌, ◌++◌, length, get_or, take, drop, set, sym, ap, ◌∙◌, subst, le_refl, add-one, arith, length-set, length-take-le, drop-cons, drop_of_length-le}
 use mathlib.Core.Option.{some}
-use lib.Seq.{slice, slice-cons, slice_empty, take-set-le, take-take}
+use lib.Seq.{take-set-le, take-take}
 use Rattle.sampling.specs.laws.CommonLaws.{filled_more}
-use Rattle.centralized_telescope.specs.declared.search.Outcome.{Outcome}
-use Rattle.centralized_telescope.specs.declared.search.Outcome.TheVariants as outcome
-use Rattle.centralized_telescope.specs.declared.round.Id.{Id}
-use Rattle.centralized_telescope.specs.declared.round.Id.TheVariants as id
+use Rattle.std.specs.Prelude.{Some, None}
+use Rattle.std.specs.Prelude.{Option as Answer}
+use Rattle.std.specs.declared.ops.ControlFlow.{ControlFlow}
+use Rattle.std.specs.declared.ops.ControlFlow.TheVariants.{Break, Continue}
 use Rattle.centralized_telescope.specs.core.Chains.{Try, Chain}
 use Rattle.centralized_telescope.specs.core.Search.{next_at, id_of}
-use Rattle.centralized_telescope.specs.inner.RoundAnswers.{id_option}
+use Rattle.centralized_telescope.specs.inner.Held.{option_of}
 use Rattle.centralized_telescope.specs.inner.Walk.{Ended, found, missing}
 use Rattle.centralized_telescope.specs.inner.Visit.{visited, walked, outcome_of, written, written_from, VisitEnds, WalkEnds}
 use Rattle.centralized_telescope.proofs.Walked.{walked_end, walked_full, walked_nothing, walked_missing, walked_found, stopped}
+use Rattle.centralized_telescope.specs.declared.round.Round.{Round}
+use Rattle.centralized_telescope.specs.inner.Following.{round_with}
+use Rattle.centralized_telescope.proofs.Walked.{Drawn, round_drawn, round_missing}
 use Rattle.centralized_telescope.proofs.Walked.{visited_bound, visited_own, missing_of, Finds, found_of}
 use Rattle.centralized_telescope.proofs.Walked.{written_short, written_full, written_none}
 
--- a walk, by what it is called with: of a round its S, its hash, the places up to it and their number; a span of the table; the steps so
--- far; the lent places
+-- a walk, by what it is called with: of a round its S, its hash, the places up to it and their number; the candidates for the next place;
+-- the steps so far; the lent places
 pub record Walk : Type 0 where
   pub of : Try
   pub search : ℕ
   pub hash : List ℕ
   pub path : List ℕ
   pub depth : ℕ
-  pub table : List ℕ
-  pub from : ℕ
-  pub to : ℕ
+  pub candidates : List ℕ
   pub steps : ℕ
   pub old : List ℕ
 
@@ -37,22 +38,20 @@ module _ (W : Walk) where
   abbrev pub size : ℕ
   size = W.of.settings.proof_size
 
-  -- the walk of some candidates, and from an index of the table on
+  -- the walk of some candidates, and of those from an index on
   abbrev pub among : List ℕ → ℕ → Ended Chain
-  among candidates count = walked W.of W.search W.hash W.path W.depth candidates count
+  among es count = walked W.of W.search W.hash W.path W.depth es count
 
   abbrev pub onward : ℕ → ℕ → Ended Chain
-  onward i count = among (slice i W.to W.table) count
+  onward i count = among (drop i W.candidates) count
 
   abbrev pub whole : Ended Chain
-  whole = onward W.from W.steps
+  whole = among W.candidates W.steps
 
 -- ---- at the head of the loop
 
--- at the index i of the table: next is the path that is handed on, mid are the lent places as they are
+-- at the index i of the candidates: next is the path that is handed on, mid are the lent places as they are
 pub record Looping (W : Walk) (i count : ℕ) (next mid : List ℕ) : Type 0 where
-  pub low : W.from ≤ i
-  pub high : i ≤ W.to
   pub most : count ≤ bound W
   pub long : length next ≡ 1024
   pub path_is : take W.depth next ≡ W.path
@@ -60,62 +59,58 @@ pub record Looping (W : Walk) (i count : ℕ) (next mid : List ℕ) : Type 0 whe
   pub still : whole W ≡ onward W i count
 
 module _ {W : Walk} {i count : ℕ} {next mid : List ℕ} (k : Looping W i count next mid) where
-  pub at_end : W.to ≤ i → WalkEnds (whole W) (outcome.Missing count) W.old mid
+  pub at_end : length W.candidates ≤ i → WalkEnds (whole W) (Continue count) W.old mid
   at_end l =
-      let e : i ≡ W.to = omega (arith, k.high) in
-      let none_left : slice i W.to W.table ≡ [] = ap (λ (j : ℕ). slice j W.to W.table) e ∙ slice_empty W.to W.table in
+      let none_left : drop i W.candidates ≡ [] = drop_of_length-le W.candidates l in
       stopped outcome_of
       (k.still
       ∙ ap (λ (es : List ℕ). among W es count) none_left
       ∙ walked_end W.of W.search W.hash W.path W.depth count)
       k.as_lent
 
-  pub at_bound : bound W ≤ count → WalkEnds (whole W) (outcome.Missing count) W.old mid
+  pub at_bound : bound W ≤ count → WalkEnds (whole W) (Continue count) W.old mid
   at_bound l =
       stopped outcome_of (k.still ∙ walked_full W.of W.search W.hash W.path W.depth count _ l) k.as_lent
 
 -- ---- a turn
 
--- what it knows, where the next hash, g, is made by the element at the place there and the id d is drawn from it
-pub record Turning (W : Walk) (i count : ℕ) (next mid : List ℕ) (g : List ℕ) (d : Id) : Type 0 where
+-- what it knows, where the next hash, g, is made by the element at the place there and the round d is drawn from it
+pub record Turning (W : Walk) (i count : ℕ) (next mid : List ℕ) (g : List ℕ) (d : Answer Round) : Type 0 where
   pub head : Looping W i count next mid
-  pub inside : i < W.to
-  pub there : W.to ≤ length W.table
+  pub inside : i < length W.candidates
   pub within : count < bound W
   pub deep : W.depth < 1024
-  pub hash_is : g ≡ next_at W.of W.hash (get_or W.table i 0)
-  pub id_is : id_option d ≡ id_of W.of g
+  pub hash_is : g ≡ next_at W.of W.hash (get_or W.candidates i 0)
+  pub round_is : option_of d ≡ round_with g (id_of W.of g)
 
-module _ {W : Walk} {i count : ℕ} {next mid : List ℕ} {g : List ℕ} {d : Id} (k : Turning W i count next mid g d) where
-  open W use {of as T, search as S, hash as h, path as ps, depth as depth, table as table, to as to, old as old}
+module _ {W : Walk} {i count : ℕ} {next mid : List ℕ} {g : List ℕ} {d : Answer Round} (k : Turning W i count next mid g d) where
+  open W use {of as T, search as S, hash as h, path as ps, depth as depth, candidates as candidates, old as old}
 
   abbrev place : ℕ
-  place = get_or table i 0
+  place = get_or candidates i 0
 
   -- the places behind this one
   abbrev behind : List ℕ
-  behind = slice (i + 1) to table
+  behind = drop (i + 1) candidates
 
   opened : whole W ≡ among W (place ∷ behind) count
   opened =
       k.head.still
-      ∙ ap (λ (es : List ℕ). among W es count) (rw (add-one i) (slice-cons i to table 0 k.inside k.there))
+      ∙ ap (λ (es : List ℕ). among W es count) (rw (add-one i) (drop-cons candidates i 0 k.inside))
 
   -- ---- the round doesn't exist, and the loop's variables are as they were
 
-  pub turn_nothing : d ≡ id.Nowhere → (count' : ℕ) (next' mid' : List ℕ) → count' ≡ count → next' ≡ next → mid' ≡ mid
+  pub turn_nothing : d ≡ None → (count' : ℕ) (next' mid' : List ℕ) → count' ≡ count → next' ≡ next → mid' ≡ mid
       → Looping W (i + 1) count' next' mid'
   turn_nothing q count' next' mid' C N M = rw (C, N, M) (record {
-    low = omega (arith, k.head.low);
-    high = omega (arith, k.inside);
     most = k.head.most;
     long = k.head.long;
     path_is = k.head.path_is;
     as_lent = k.head.as_lent;
-    still = opened ∙ walked_nothing T S h ps depth count place behind (rw (← k.hash_is, ← k.id_is, q));
+    still = opened ∙ walked_nothing T S h ps depth count place behind (rw (← k.hash_is) (round_missing T g d k.round_is q));
   })
 
-  -- ---- it exists, with the id j, and its visit answers o and leaves the lent places as `last`
+  -- ---- it exists, it is r, and its visit answers o and leaves the lent places as `last`
 
   abbrev set_next : List ℕ
   set_next = set next depth place
@@ -123,12 +118,15 @@ module _ {W : Walk} {i count : ℕ} {next mid : List ℕ} {g : List ℕ} {d : Id
   abbrev path : List ℕ
   path = take (depth + 1) set_next
 
-  module _ {j : ℕ} (q : d ≡ id.At j) where
+  module _ {r : Round} (q : d ≡ Some r) where
     abbrev below : Ended Chain
-    below = visited T S g j path (depth + 1) count
+    below = visited T S r.hash r.id path (depth + 1) count
+
+    known : Drawn T g r
+    known = round_drawn T g d k.round_is q
 
     -- it keeps the path that was handed to it, as far as that goes
-    module _ {o : Outcome} {last : List ℕ} (after : List ℕ) (said : VisitEnds T.settings (depth + 1) below o mid last)
+    module _ {o : ControlFlow ℕ ℕ} {last : List ℕ} (after : List ℕ) (said : VisitEnds T.settings (depth + 1) below o mid last)
         (handed : take (depth + 1) after ≡ path) (as_long : length after ≡ 1024) where
       pub path_after : take depth after ≡ ps
       path_after =
@@ -142,39 +140,37 @@ module _ {W : Walk} {i count : ℕ} {next mid : List ℕ} {g : List ℕ} {d : Id
       left : last ≡ written_from T.settings (depth + 1) below old
       left = said.places_are ∙ ap (written_from T.settings (depth + 1) below) k.head.as_lent
 
-      drawn : id_of T (next_at T h place) ≡ some j
-      drawn = rw (← k.hash_is, ← k.id_is, q)
+      drawn : id_of T (next_at T h place) ≡ some r.id
+      drawn = rw (← k.hash_is) known.id_is
 
       ahead : depth < length next
       ahead = omega (arith, k.deep, k.head.long)
 
-      same : visited T S (next_at T h place) j (ps ++ (place ∷ [])) (depth + 1) count ≡ below
-      same = rw (← k.hash_is, filled_more next ps depth place ahead k.head.path_is)
+      same : visited T S (next_at T h place) r.id (ps ++ (place ∷ [])) (depth + 1) count ≡ below
+      same = rw (known.hash_is, ← k.hash_is, filled_more next ps depth place ahead k.head.path_is)
 
       -- it finds nothing: the loop goes on with its count and the path as it is
-      pub turn_missing : {t : ℕ} → o ≡ outcome.Missing t → (count' : ℕ) (next' mid' : List ℕ) → count' ≡ t → next' ≡ after → mid' ≡ last
+      pub turn_missing : {t : ℕ} → o ≡ Continue t → (count' : ℕ) (next' mid' : List ℕ) → count' ≡ t → next' ≡ after → mid' ≡ last
           → Looping W (i + 1) count' next' mid'
       turn_missing {t} v count' next' mid' C N M =
           let m : below ≡ missing t = missing_of below t (sym v ∙ said.answer_is) in
           rw (C, N, M) (record {
-            low = omega (arith, k.head.low);
-            high = omega (arith, k.inside);
-            most = rw m at (visited_bound T S g j path (depth + 1) count (omega (arith, k.within)));
+            most = rw m at (visited_bound T S r.hash r.id path (depth + 1) count (omega (arith, k.within)));
             long = as_long;
             path_is = path_after;
             as_lent = left ∙ written_none T.settings (depth + 1) below old t m;
-            still = opened ∙ walked_missing T S h ps depth count place behind j t drawn (same ∙ m);
+            still = opened ∙ walked_missing T S h ps depth count place behind r.id t drawn (same ∙ m);
           })
 
-      module _ {t : ℕ} (v : o ≡ outcome.Found t) where
+      module _ {t : ℕ} (v : o ≡ Break t) where
         caught : Finds below t
         caught = found_of below t (sym v ∙ said.answer_is)
 
         ends_so : whole W ≡ found t caught.chain
-        ends_so = opened ∙ walked_found T S h ps depth count place behind j t caught.chain drawn (same ∙ caught.ends_with)
+        ends_so = opened ∙ walked_found T S h ps depth count place behind r.id t caught.chain drawn (same ∙ caught.ends_with)
 
         -- the places were written further down
-        pub turn_found : depth < size W → (depth + 1 ≡ size W → ⊥) → WalkEnds (whole W) (outcome.Found t) old last
+        pub turn_found : depth < size W → (depth + 1 ≡ size W → ⊥) → WalkEnds (whole W) (Break t) old last
         turn_found ls ne = record {
           answer_is = rw ends_so;
           places_are =
@@ -184,11 +180,11 @@ module _ {W : Walk} {i count : ℕ} {next mid : List ℕ} {g : List ℕ} {d : Id
 
         -- the places are written here
         pub turn_write : depth + 1 ≡ size W → {now : List ℕ} → now ≡ take (size W) after ++ drop (size W) last
-            → WalkEnds (whole W) (outcome.Found t) old now
+            → WalkEnds (whole W) (Break t) old now
         unfolding written
         turn_write eq {now} n =
             let own : caught.chain.places ≡ path =
-            ap (λ (c : Chain). c.places) (visited_own T S g j path (depth + 1) count t caught.chain eq caught.ends_with) in
+            ap (λ (c : Chain). c.places) (visited_own T S r.hash r.id path (depth + 1) count t caught.chain eq caught.ends_with) in
             let kept : last ≡ old = left ∙ written_full T.settings (depth + 1) below old (omega arith) in
             let long : length path ≡ depth + 1 =
             length-take-le (depth + 1) set_next (omega (arith, ahead, length-set next depth place)) in

@@ -1,9 +1,14 @@
 -- What a visit and a walk give, step by step. The proofs of the search cite these and open no definition.
-use Rattle.std.proofs.Common.{◌≡◌, ℕ, suc, ◌+◌, ◌-◌, ◌<◌, ◌≤◌, true, false, cond, eqb, ltb, List, [], ◌∷◌, ◌++◌, length, sym, refl, ◌∙◌, arith, le-ltb, lt-ltb, eq-eqb, ne_eqb}
-use mathlib.Core.Option.{none, some}
+use Rattle.std.proofs.Common.{◌≡◌, ℕ, suc, ◌+◌, ◌-◌, ◌<◌, ◌≤◌, true, false, cond, eqb, ltb, List, [], ◌∷◌, ◌++◌, length, sym, refl, ap, ◌∙◌, arith, le-ltb, lt-ltb, eq-eqb, ne_eqb}
+use mathlib.Core.Option.{Option, none, some}
+use Rattle.std.specs.Prelude.{Some, None}
+use Rattle.std.specs.Prelude.{Option as Answer}
 use Rattle.centralized_telescope.specs.declared.params.Params.{Params}
-use Rattle.centralized_telescope.specs.declared.search.Outcome.{Outcome}
-use Rattle.centralized_telescope.specs.declared.search.Outcome.TheVariants as outcome
+use Rattle.std.specs.declared.ops.ControlFlow.{ControlFlow}
+use Rattle.std.specs.declared.ops.ControlFlow.TheVariants.{Break, Continue}
+use Rattle.centralized_telescope.specs.declared.round.Round.{Round}
+use Rattle.centralized_telescope.specs.inner.Held.{option_of}
+use Rattle.centralized_telescope.specs.inner.Following.{round_with}
 use Rattle.centralized_telescope.specs.laws.TestLaws.{either_way}
 use Rattle.centralized_telescope.specs.core.Rounds.{says_yes}
 use Rattle.centralized_telescope.specs.core.Chains.{Try, Chain}
@@ -104,9 +109,33 @@ module _ (T : Try) (S : ℕ) where
         pub visited_fail : says_yes T.settings.x h ≡ false → ended ≡ missing (count + 1)
         visited_fail y = last_step ∙ rw y
 
+-- ---- the round that is drawn
+
+-- with this hash, and its id is the one that is drawn from it
+pub record Drawn (T : Try) (g : List ℕ) (r : Round) : Type 0 where
+  pub hash_is : r.hash ≡ g
+  pub id_is : id_of T g ≡ some r.id
+
+module _ (T : Try) (g : List ℕ) (d : Answer Round) (drawn : option_of d ≡ round_with g (id_of T g)) where
+  pub round_drawn : {r : Round} → d ≡ Some r → Drawn T g r
+  round_drawn {r} q = go (id_of T g) refl (sym drawn ∙ ap option_of q)
+    where
+      go : (o : Option ℕ) → id_of T g ≡ o → round_with g o ≡ some r → Drawn T g r
+      go none i e = let z : ◌≡◌ {A = ℕ} 0 1 = cc in absurd (omega arith)
+      go (some j) i e =
+          let z : record { hash = g; id = j } ≡ r = cc in
+          record { hash_is = ap (λ (k : Round). k.hash) (sym z); id_is = i ∙ ap (λ (k : Round). some k.id) z }
+
+  pub round_missing : d ≡ None → id_of T g ≡ none
+  round_missing q = go (id_of T g) refl (sym drawn ∙ ap option_of q)
+    where
+      go : (o : Option ℕ) → id_of T g ≡ o → round_with g o ≡ none → id_of T g ≡ none
+      go none i e = i
+      go (some j) i e = let z : ◌≡◌ {A = ℕ} 0 1 = cc in absurd (omega arith)
+
 -- ---- from an answer back to the walk's end
 
-pub missing_of : (r : Ended Chain) (t : ℕ) → outcome.Missing t ≡ outcome_of r → r ≡ missing t
+pub missing_of : (r : Ended Chain) (t : ℕ) → Continue t ≡ outcome_of r → r ≡ missing t
 missing_of (found u c) t e = let z : ◌≡◌ {A = ℕ} 0 1 = cc in absurd (omega arith)
 missing_of (missing u) t e = cc
 
@@ -115,7 +144,7 @@ pub record Finds (r : Ended Chain) (t : ℕ) : Type 0 where
   pub chain : Chain
   pub ends_with : r ≡ found t chain
 
-pub found_of : (r : Ended Chain) (t : ℕ) → outcome.Found t ≡ outcome_of r → Finds r t
+pub found_of : (r : Ended Chain) (t : ℕ) → Break t ≡ outcome_of r → Finds r t
 found_of (found u c) t e = record { chain = c; ends_with = cc }
 found_of (missing u) t e = let z : ◌≡◌ {A = ℕ} 0 1 = cc in absurd (omega arith)
 
@@ -144,7 +173,7 @@ module _ (p : Params) (depth : ℕ) (r : Ended Chain) (places : List ℕ) where
 
 module _ (p : Params) (depth : ℕ) {v w : Ended Chain} (e : v ≡ w) (old : List ℕ) where
   -- that of the walk that it hands over to
-  pub by_walk : depth < p.proof_size → {o : Outcome} {now : List ℕ} → WalkEnds w o old now → VisitEnds p depth v o old now
+  pub by_walk : depth < p.proof_size → {o : ControlFlow ℕ ℕ} {now : List ℕ} → WalkEnds w o old now → VisitEnds p depth v o old now
   by_walk l q = rw e (record { answer_is = q.answer_is; places_are = q.places_are ∙ sym (written_short p depth w old l) })
 
   -- at full length nothing is written

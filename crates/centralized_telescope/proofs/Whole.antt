@@ -7,7 +7,7 @@ use lib.Ieee.Back.{round_whole}
 use lib.Ieee.Exact.{HasValue}
 use Rattle.sampling.specs.laws.CommonLaws.{same_test}
 use Rattle.centralized_telescope.specs.later.SmallCase.{floor, ceil}
-use Rattle.centralized_telescope.specs.laws.SmallCaseLaws.{Inside, floor_most}
+use Rattle.centralized_telescope.specs.laws.SmallCaseLaws.{Inside, inside, floor_most}
 
 -- ---- the floor: what the truncation asks, and what it answers
 
@@ -77,3 +77,6 @@ ceiling (fin s m e) b t i f l =
     let h : t ≤ 2 ^ 52 = rw f (floor_most (2 ^ 52) (fin s m e) i) in
     let c : ltb (t * down e) (m * up e) ≡ b = sym (less (of_int binary64 (pos t)) t s m e (double t h) i.0) ∙ l in
     rw f (by_rest (m * up e) (down e) b (rw f at c))
+
+-- the floor by the truncation
+pub ruleset floor_told = (inside, above_minus_one, below_2_to_64, truncated)

@@ -3,6 +3,7 @@ pub mod Lists
 pub mod Refusals
 pub mod Params
 pub mod Elements
+pub mod LentLists
 pub mod Rounds
 pub mod Bins
 pub mod Chains

@@ -1,15 +1,19 @@
 -- What inner functions promise each other.
+pub mod Held
 pub mod ListReading
+pub mod BuffersHeld
+pub mod BytesHeld
 pub mod Source
-pub mod RoundAnswers
+pub mod SourceHeld
 pub mod Following
 pub mod BinPasses
-pub mod BinSpans
 pub mod Walk
+pub mod TryTables
 pub mod Visit
 pub mod Ordering
 pub mod Sorting
 pub mod Pooling
+pub mod Runs
 pub mod Gathering
 pub mod Seeing
 pub mod TicketReading

@@ -6,6 +6,7 @@ pub mod SmallCase
 pub mod Distinct
 pub mod Pool
 pub mod TwoProducts
+pub mod Buffers
 pub mod ProofList
 pub mod ElementBytes
 pub mod Prepare

@@ -1,10 +1,10 @@
 // Blocks of 512 bytes: 504 of body, then the first 8 bytes of the body's SHA-256. What the bodies hold is not looked at here.
-ghost use Rattle.std.specs.Prelude.{◌≡◌, ◌+◌, ◌*◌, ◌/◌, ◌%◌, ◌≤◌, ◌++◌, length, take, drop, replicate};
+ghost use Rattle.std.specs.Prelude.{◌≡◌, ◌+◌, ◌*◌, ◌/◌, ◌%◌, ◌≤◌, ◌++◌, length, take, drop};
 ghost use Rattle.centralized_telescope.specs.later.Words.{same_bytes};
 ghost use Rattle.centralized_telescope.specs.later.Blocks.{body_check, sealed, bodies_of, checks_hold, damaged, block_bytes, body_bytes};
 ghost use Rattle.centralized_telescope.specs.later.Blocks.{check_bytes, with_check};
 
-use crate::numbers::{copy_at, least};
+use crate::numbers::copy_at;
 
 // A block's bytes, those of its body, and those of the check behind it.
 pub const BLOCK_BYTES: usize = 512;
@@ -21,25 +21,13 @@ fn check_of(body: &[u8]) -> [u8; CHECK_BYTES]
     requires { length body.now ≡ body_bytes }
     ensures { result ≡ body_check body.now }
 {
-    let h = sampling::sha256::sha256(body, b"", b"", b"");
-    let digest = h.digest;
+    let digest = sampling::sha256::sha256(body, b"", b"", b"").unwrap();
     let mut out = [0u8; CHECK_BYTES];
     out.copy_from_slice(&digest[..CHECK_BYTES]);
     out
 }
 
 // ---- Writing
-
-// Zeros all over a lent part.
-pub fn fill_zeros(out: &mut [u8])
-    ensures { out.new ≡ replicate (length out.old) 0 }
-{
-    let mut i = 0;
-    while i < out.len() {
-        out[i] = 0;
-        i += 1;
-    }
-}
 
 // Makes the k-th of the joined bodies the k-th block.
 fn seal_one(out: &mut [u8], k: usize)
@@ -61,31 +49,15 @@ pub fn seal(out: &mut [u8], n: usize)
     requires { block_bytes * n ≤ length out.old }
     ensures { out.new ≡ sealed n out.old ++ drop (block_bytes * n) out.old }
 {
-    let mut k = n;
-    while k > 0 {
-        k -= 1;
+    for k in (0..n).rev() {
         seal_one(out, k);
     }
 }
 
 // ---- Reading
 
-// Whether two strings of one length hold the same bytes.
-pub fn same_bytes(a: &[u8], b: &[u8]) -> bool
-    requires { length a.now ≡ length b.now }
-    ensures { result ≡ same_bytes a.now b.now }
-{
-    let mut i = 0;
-    while i < a.len() {
-        if a[i] != b[i] {
-            return false;
-        }
-        i += 1;
-    }
-    true
-}
-
 // Whether the k-th block has the check of its body.
+#[tactic(auto, using(crate::proofs::BlockReading::check_read))]
 fn check_holds(ticket: &[u8], k: usize) -> bool
     requires { block_bytes * k + block_bytes ≤ length ticket.now }
     ensures { result ≡ same_bytes (body_check (take body_bytes (drop (block_bytes * k) ticket.now)))
@@ -93,32 +65,22 @@ fn check_holds(ticket: &[u8], k: usize) -> bool
 {
     let at = BLOCK_BYTES * k;
     let check = check_of(&ticket[at..at + BODY_BYTES]);
-    same_bytes(&check, &ticket[at + BODY_BYTES..at + BLOCK_BYTES])
+    check[..] == ticket[at + BODY_BYTES..at + BLOCK_BYTES]
 }
 
 // Whether every block has the check of its body. What is left over behind whole blocks isn't looked at.
 fn all_checks_hold(ticket: &[u8]) -> bool
     ensures { result ≡ checks_hold (length ticket.now / block_bytes) ticket.now }
 {
-    let n = ticket.len() / BLOCK_BYTES;
-    let mut k = 0;
-    while k < n {
-        if !check_holds(ticket, k) {
-            return false;
-        }
-        k += 1;
-    }
-    true
+    (0..ticket.len() / BLOCK_BYTES).all(|k| check_holds(ticket, k))
 }
 
 // Whether the size isn't whole blocks, or a block's check fails.
+#[tactic(auto, unfolding(crate::specs::later::Blocks::damaged))]
 pub fn is_damaged(ticket: &[u8]) -> bool
     ensures { result ≡ damaged ticket.now }
 {
-    if ticket.len() % BLOCK_BYTES != 0 {
-        return true;
-    }
-    !all_checks_hold(ticket)
+    ticket.len() % BLOCK_BYTES != 0 || !all_checks_hold(ticket)
 }
 
 // Copies a part of the joined bodies, `len` bytes from the offset `at` on, to the offset `used` of a buffer. A part may straddle blocks.
@@ -128,10 +90,11 @@ pub fn copy_from_bodies(ticket: &[u8], at: usize, len: usize, used: usize, out: 
         ++ (take len (drop at (bodies_of ticket.now)) ++ drop (used + len) out.old) }
 {
     let mut done = 0;
+    // a step is what its body has left, which no range goes by
     while done < len {
         let offset = at + done;
         let from = offset / BODY_BYTES * BLOCK_BYTES + offset % BODY_BYTES;
-        let n = least(BODY_BYTES - offset % BODY_BYTES, len - done);
+        let n = (BODY_BYTES - offset % BODY_BYTES).min(len - done);
         copy_at(&ticket[from..from + n], used + done, out);
         done += n;
     }

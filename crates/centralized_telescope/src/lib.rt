@@ -3,13 +3,17 @@
 
 mod bins;
 mod blocks;
+mod buffers;
 mod digits;
 mod element_bytes;
 mod errors;
 mod exports;
+mod in_bytes;
+mod lawful;
+mod listed;
+mod lists;
 mod misc;
 mod numbers;
-mod order;
 mod params;
 mod planning;
 mod pool;
@@ -17,7 +21,9 @@ mod preparing;
 mod products;
 mod proof;
 mod proof_list;
+mod ready;
 mod round;
+mod run;
 mod search;
 mod security;
 mod sort;
@@ -27,21 +33,21 @@ mod theorems;
 mod ticket;
 mod types;
 
+pub use buffers::Buffers;
 pub use errors::{Refusal, refusal_number};
 pub use exports::alba_verify;
-pub use misc::{Distinctness, check_distinct};
-pub use params::{
-    Checked, Params, SmallCase, SmallSettings, check_params, param_small_case, settings_of,
-};
-pub use planning::{Amounts, Planned, plan};
-pub use pool::{PoolSize, pool_data, pool_size, prove_pool};
-pub use preparing::{Prepared, commit, prepare};
-pub use products::{TwoAnswers, two_products};
-pub use proof::{Verdict, verdict_number};
-pub use proof_list::{Written, write_proof};
+pub use lists::Lent;
+pub use misc::check_distinct;
+pub use params::{Params, SmallSettings, check_params, param_small_case, settings_of};
+pub use planning::{Amounts, plan};
+pub use pool::{pool_data, pool_size, prove_pool};
+pub use preparing::{commit, prepare};
+pub use products::{Party, Shared, TwoAnswers, two_products};
+pub use proof::{Rejection, verdict_number};
+pub use proof_list::write_proof;
 pub use round::{RetryCounter, SearchCounter};
-pub use search::{ProofSearch, proof_search_number};
-pub use security::{SmallestSize, proof_size};
+pub use search::{Search, proof_search_number};
+pub use security::proof_size;
 pub use telescope::{prove, verify};
 pub use theorems::{
     all_cases, blocks_counted, bytes_judged_alike, cases_served, change_noticed, demand_3,
@@ -52,5 +58,5 @@ pub use theorems::{
     ticket_fits, ticket_judged_alike, ticket_reads_back, ticket_writes_back, tickets_exactly,
     tight_example, try_guaranteed, verdict_exactly,
 };
-pub use ticket::{TicketBlocks, TicketProof, read_ticket, stated_blocks, write_ticket};
-pub use types::{ListCheck, check_list};
+pub use ticket::{TicketProof, read_ticket, stated_blocks, write_ticket};
+pub use types::check_list;

@@ -1,31 +1,22 @@
-// Small jobs: a number as a `usize`, the lower of two numbers, a number out of bytes, and bytes copied into a buffer.
-ghost use Rattle.std.specs.Prelude.{◌≡◌, ◌+◌, ◌^◌, ◌<◌, ◌≤◌, min, ◌++◌, length, take, drop};
+// Small jobs: room on the stack, a number as a `usize`, a number out of bytes, and bytes copied into a buffer.
+ghost use Rattle.std.specs.Prelude.{◌≡◌, ◌+◌, ◌^◌, ◌<◌, ◌≤◌, ◌++◌, length, take, drop};
 ghost use Rattle.sampling.specs.core.BigEndian.{big_endian};
 
 use sampling::number_of;
 
-// A number of a list, such as an end or a place, as a `usize`.
+// Room for N values, each x. A function of its own: its caller's proof then sees a length, and not that many values.
+pub fn room<T: Copy, const N: usize>(x: T) -> [T; N]
+    ensures { N ≡ length result }
+{
+    [x; N]
+}
+
+// A number of a list, such as an end or a place, as a `usize`. By a call, since an `as` in its place doesn't say that the number is below
+// 2^32, which sums of it ask.
 pub fn wide(x: u32) -> usize
     ensures { (result ≡ x) × (result < 4294967296) }
 {
     x as usize
-}
-
-// A place of a list as a `usize`.
-pub fn wide_place(x: u16) -> usize
-    ensures { result ≡ x }
-{
-    x as usize
-}
-
-// The lower of two numbers.
-pub fn least(a: usize, b: usize) -> usize
-    ensures { result ≡ min a b }
-{
-    if a < b {
-        return a;
-    }
-    b
 }
 
 // The number that the k bytes from `at` on make, the most significant first.

@@ -1,13 +1,15 @@
 // The settings, their limits, and the settings of the small case.
 
-ghost use Rattle.std.specs.Prelude.{◌≡◌, ◌^◌, false};
+ghost use Rattle.std.specs.Prelude.{◌≡◌, ◌^◌, IfOk, false};
 ghost use Rattle.sampling.specs.later.Threshold.{outside, xOf};
-ghost use Rattle.centralized_telescope.specs.core.Params.{settings_of, not_one_to, limit_broken, checked, checked_by};
+ghost use Rattle.centralized_telescope.specs.core.Params.{settings_of, not_one_to, limit_broken, checked};
+ghost use Rattle.centralized_telescope.specs.core.Refusals.{answer_number};
 ghost use Rattle.centralized_telescope.specs.later.SmallCase.{proof_size_out, completeness_out, floor, ceil, small_settings, small_case};
 ghost use Rattle.centralized_telescope.specs.later.SmallCase.{small_case_by};
 
 use crate::errors::Refusal;
-use sampling::{Threshold, U128};
+use crate::lawful::Lawful;
+use sampling::U128;
 
 // The limits of the settings.
 pub const MAX_SET_SIZE: u64 = 32_768;
@@ -60,13 +62,6 @@ pub fn settings_of(
     }
 }
 
-// What the check of the settings answers. Every X is lawful.
-#[derive(Clone, Copy)]
-pub enum Checked {
-    Lawful,
-    Refused(Refusal),
-}
-
 // The small case's settings: every one but set_size.
 #[derive(Clone, Copy)]
 pub struct SmallSettings {
@@ -77,56 +72,53 @@ pub struct SmallSettings {
     pub x: U128,
 }
 
-// What the small case answers.
-#[derive(Clone, Copy)]
-pub enum SmallCase {
-    Settings(SmallSettings),
-    Refused(Refusal),
-}
-
 // Whether n is not 1 to hi.
+#[tactic(auto, unfolding(crate::specs::core::Params::not_one_to))]
 fn is_not_one_to(hi: u64, n: u64) -> bool
     ensures { result ≡ not_one_to hi n }
 {
-    if n < 1 {
-        return true;
-    }
-    n > hi
+    n < 1 || n > hi
 }
 
 // Whether a limit of another whole number is broken.
+#[tactic(auto, unfolding(crate::specs::core::Params::limit_broken))]
 fn is_limit_broken(p: Params) -> bool
     ensures { result ≡ limit_broken p }
 {
-    if p.proof_size > MAX_PROOF_SIZE {
-        return true;
-    }
-    if p.max_retries > MAX_RETRIES {
-        return true;
-    }
-    if p.search_width > MAX_SEARCH_WIDTH {
-        return true;
-    }
-    p.dfs_bound > MAX_DFS_BOUND
+    p.proof_size > MAX_PROOF_SIZE
+        || p.max_retries > MAX_RETRIES
+        || p.search_width > MAX_SEARCH_WIDTH
+        || p.dfs_bound > MAX_DFS_BOUND
 }
 
-// Lawful, or the first refusal in the table's order.
-pub fn check_params(p: Params) -> Checked
-    ensures { checked_by result ≡ checked p }
+// The first refusal in the table's order, if any. Every X is lawful.
+#[tactic(auto, using(crate::specs::laws::ParamsLaws::check_told))]
+pub fn check_params(p: Params) -> Result<(), Refusal>
+    ensures { answer_number result ≡ checked p }
 {
     if is_not_one_to(MAX_SET_SIZE, p.set_size) {
-        return Checked::Refused(Refusal::SetSize);
+        return Err(Refusal::SetSize);
     }
     if is_limit_broken(p) {
-        return Checked::Refused(Refusal::Limit);
+        return Err(Refusal::Limit);
     }
-    Checked::Lawful
+    Ok(())
+}
+
+// The settings themselves, where they are lawful.
+pub fn lawful(p: Params) -> Result<Lawful, Refusal>
+    ensures number { answer_number result ≡ checked p }
+    ensures same { IfOk result (λ lawful. lawful.params ≡ p) }
+{
+    check_params(p)?;
+    Ok(Lawful { params: p })
 }
 
 // The double nearest to ln 12.
 const LN_12: f64 = 2.48490664978800031023;
 
 // The greatest whole number that isn't above x. Up to 2^52 it is the truncation, and both it and the next whole number are doubles.
+#[tactic(auto, using(crate::proofs::Whole::floor_told))]
 fn floor_of(x: f64) -> u64
     requires { outside (2 ^ 52) x ≡ false }
     ensures { result ≡ floor x }
@@ -150,23 +142,14 @@ fn ceil_of(x: f64) -> u64
 fn is_completeness_out(c: f64) -> bool
     ensures { result ≡ completeness_out c }
 {
-    if c != c {
-        return true;
-    }
-    if c < 0.0 {
-        return true;
-    }
-    c > MAX_COMPLETENESS
+    c.is_nan() || c < 0.0 || c > MAX_COMPLETENESS
 }
 
 // X of q, or 0 where the converter refuses q. The small case's q is never refused (SmallCaseLaws).
 fn x_of(q: f64) -> U128
     ensures { result ≡ xOf q }
 {
-    match sampling::threshold_of(q) {
-        Threshold::At(x) => x,
-        Threshold::Refused => U128 { hi: 0, lo: 0 },
-    }
+    sampling::threshold_of(q).unwrap_or(U128 { hi: 0, lo: 0 })
 }
 
 // The small case's settings, each operation in the order of the source; X is that of the source's q.
@@ -190,14 +173,15 @@ fn small_settings(u: u64, c: f64) -> SmallSettings
 }
 
 // The small case's settings for proofs of u elements with completeness c, or the first refusal in the table's order.
-pub fn param_small_case(u: u64, c: f64) -> SmallCase
+#[tactic(auto, using(crate::specs::laws::SmallCaseLaws::small_case_told))]
+pub fn param_small_case(u: u64, c: f64) -> Result<SmallSettings, Refusal>
     ensures { small_case_by result ≡ small_case u c }
 {
     if is_not_one_to(MAX_PROOF_SIZE, u) {
-        return SmallCase::Refused(Refusal::ProofSize);
+        return Err(Refusal::ProofSize);
     }
     if is_completeness_out(c) {
-        return SmallCase::Refused(Refusal::Completeness);
+        return Err(Refusal::Completeness);
     }
-    SmallCase::Settings(small_settings(u, c))
+    Ok(small_settings(u, c))
 }

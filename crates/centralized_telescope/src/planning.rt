@@ -1,13 +1,13 @@
 // What a run takes, worked out from its settings before anything is lent.
 ghost use Rattle.std.specs.Prelude.{◌≡◌, ◌≤◌};
-ghost use Rattle.centralized_telescope.specs.core.Params.{checked};
 ghost use Rattle.centralized_telescope.specs.later.Plan.{amounts, planned, planned_by};
 ghost use Rattle.centralized_telescope.specs.core.Elements.{max_data_bytes};
 
 use crate::blocks::{BODY_BYTES, MAX_FILLING};
 use crate::element_bytes::MAX_HEAD_BYTES;
 use crate::errors::Refusal;
-use crate::params::{Checked, Params, check_params};
+use crate::lawful::Lawful;
+use crate::params::{Params, lawful};
 use crate::ticket::HEAD_BYTES;
 use crate::types::MAX_DATA_BYTES;
 
@@ -24,13 +24,6 @@ pub struct Amounts {
     pub ticket_blocks: u64,
 }
 
-// What planning answers.
-#[derive(Clone, Copy)]
-pub enum Planned {
-    Amounts(Amounts),
-    Refused(Refusal),
-}
-
 // The numbers of bytes that a ticket's size is made of.
 const HEAD: u64 = HEAD_BYTES as u64;
 
@@ -42,32 +35,30 @@ const FILLING: u64 = MAX_FILLING as u64;
 
 const LONGEST: u64 = MAX_DATA_BYTES as u64;
 
-fn amounts_of(p: Params, longest: u64) -> Amounts
-    requires { (checked p ≡ 0) × (longest ≤ max_data_bytes) }
-    ensures { result ≡ amounts p longest }
+#[tactic(auto, using(crate::specs::laws::PlanLaws::amounts_fit), unfolding(crate::specs::later::Plan::amounts))]
+fn amounts_of(p: Lawful, longest: u64) -> Amounts
+    requires { longest ≤ max_data_bytes }
+    ensures { result ≡ amounts p.params longest }
 {
-    let size = HEAD + p.proof_size * (ELEMENT_HEAD + longest);
+    let settings = p.params;
+    let size = HEAD + settings.proof_size * (ELEMENT_HEAD + longest);
     Amounts {
-        places: p.proof_size,
-        bin_table: 3 * p.set_size + 1,
-        most_steps: p.max_retries * p.dfs_bound,
+        places: settings.proof_size,
+        bin_table: 3 * settings.set_size + 1,
+        most_steps: settings.max_retries * settings.dfs_bound,
         ticket_blocks: (size + FILLING) / BODY,
     }
 }
 
 // The amounts for runs under these settings over elements with data of at most `longest` bytes, or the first refusal: the settings', then
 // that of a length that no element may have.
-pub fn plan(p: Params, longest: u64) -> Planned
+#[tactic(auto, using(crate::specs::laws::PlanLaws::plan_told))]
+pub fn plan(p: Params, longest: u64) -> Result<Amounts, Refusal>
     ensures { planned_by result ≡ planned p longest }
 {
-    match check_params(p) {
-        Checked::Lawful => {}
-        Checked::Refused(k) => {
-            return Planned::Refused(k);
-        }
-    }
+    let settings = lawful(p)?;
     if longest > LONGEST {
-        return Planned::Refused(Refusal::TooLarge);
+        return Err(Refusal::TooLarge);
     }
-    Planned::Amounts(amounts_of(p, longest))
+    Ok(amounts_of(settings, longest))
 }

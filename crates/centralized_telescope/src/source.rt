@@ -1,55 +1,54 @@
-// What the search reads its elements from, by place: a first lent list, and behind its places those of a second one that are added.
-ghost use Rattle.centralized_telescope.specs.core.Elements.{element_at};
-ghost use Rattle.centralized_telescope.specs.inner.Source.{source_now, source_at_entry, meant, CanRead, Own, Indexed};
+// What the search reads its elements from, by place: a first list, and behind its places those of a second one that are added.
+ghost use Rattle.std.specs.Prelude.{◌≡◌, ℕ, ◌<◌, ◌≤◌, length, slice_index};
+ghost use Rattle.centralized_telescope.specs.core.Elements.{max_elements};
 
-use crate::numbers::wide_place;
-use crate::types::{Index, data_of, index_of};
+use crate::lists::{AcceptedList, Element};
 
-// The data bytes of the element at a place: a part of the first list's data or of the second's.
-pub fn own_data<'a>(
-    data: &'a [u8],
-    ends: &[u32],
-    marks: &[u8],
-    indexes: &[u64],
-    data2: &'a [u8],
-    ends2: &[u32],
-    marks2: &[u8],
-    indexes2: &[u64],
-    added: &[u16],
-    place: usize,
-) -> &'a [u8]
-    requires { CanRead (source_now «data» ends marks indexes data2 ends2 marks2 indexes2 added) place }
-    ensures { Own result.now (element_at (meant (source_at_entry «data» ends marks indexes data2 ends2 marks2 indexes2 added)) place) }
-{
-    let first = ends.len();
-    if place < first {
-        return data_of(data, ends, place);
-    }
-    let at = wide_place(added[place - first]);
-    data_of(data2, ends2, at)
+// For a prover over one list none is added. An element's data outlive all else that is lent here.
+#[derive(Clone, Copy)]
+pub struct Source<'d, 'a> {
+    pub first: AcceptedList<'d, 'a>,
+    pub second: AcceptedList<'d, 'a>,
+    pub added: &'a [u16],
+    ghost few_added: { length added.now ≤ max_elements },
+    ghost added_there: { (i : ℕ) → i < length added.now → slice_index added.now i < length second.ends.now },
 }
 
-// The index of the element at a place, 0 and 0 where it has none.
-pub fn own_index(
-    data: &[u8],
-    ends: &[u32],
-    marks: &[u8],
-    indexes: &[u64],
-    data2: &[u8],
-    ends2: &[u32],
-    marks2: &[u8],
-    indexes2: &[u64],
-    added: &[u16],
-    place: usize,
-) -> Index
-    requires { CanRead (source_now «data» ends marks indexes data2 ends2 marks2 indexes2 added) place }
-    ensures { Indexed result.mark result.number
-        (element_at (meant (source_at_entry «data» ends marks indexes data2 ends2 marks2 indexes2 added)) place) }
-{
-    let first = ends.len();
-    if place < first {
-        return index_of(marks, indexes, place);
+impl<'d, 'a> Source<'d, 'a> {
+    ghost use Rattle.std.specs.Prelude.{◌≡◌, [], ◌<◌, ◌≤◌, ◌+◌, length};
+    ghost use Rattle.centralized_telescope.specs.core.Elements.{elements, element_at, max_elements};
+    ghost use Rattle.centralized_telescope.specs.inner.Held.{held, element_read};
+    ghost use Rattle.centralized_telescope.specs.inner.SourceHeld.{source_held};
+    ghost use Rattle.centralized_telescope.specs.inner.Source.{meant};
+
+    // One list, with nothing added.
+    pub fn of_list(list: AcceptedList<'d, 'a>) -> Source<'d, 'a>
+        ensures { meant (source_held result) ≡ elements (held list.entry) }
+    {
+        Source {
+            first: list,
+            second: list,
+            added: &[],
+        }
     }
-    let at = wide_place(added[place - first]);
-    index_of(marks2, indexes2, at)
+
+    // How many elements it has.
+    pub fn len(&self) -> usize
+        ensures exact { result ≡ length (meant (source_held self.now)) }
+        ensures few { result ≤ max_elements + max_elements }
+    {
+        self.first.len() + self.added.len()
+    }
+
+    // The element at a place.
+    pub fn element(&self, place: usize) -> Element<'d>
+        requires { place < length (meant (source_held self.now)) }
+        ensures { element_read result ≡ element_at (meant (source_held self.now)) place }
+    {
+        let first = self.first.len();
+        if place < first {
+            return self.first.element(place);
+        }
+        self.second.element(usize::from(self.added[place - first]))
+    }
 }

@@ -2,15 +2,11 @@
 // it ends is what it shows: each element of a chain has a frame of its own while the search goes on.
 #![tactic(auto)]
 
-ghost use Rattle.std.specs.Prelude.{◌≡◌, ◌≤◌, length};
+ghost use Rattle.std.specs.Prelude.{◌≤◌, length};
 
-use centralized_telescope::{
-    Params, ProofSearch, RetryCounter, SearchCounter, proof_search_number, verdict_number,
-};
+use centralized_telescope::{Lent, Params, RetryCounter, Search, SearchCounter};
 use outcomes::say_outcome;
 use sampling::U128;
-use text::one_if;
-use text::say::{say, say_number};
 
 // One bin, and in it one element: a chain of each length, which the bound just admits. The verifier wants R below max_retries. X is the
 // greatest: one hash in 2^128 doesn't pass.
@@ -32,51 +28,32 @@ fn settings() -> Params {
 fn first_places(places: &[u32]) -> usize
     ensures { result ≤ length places.now }
 {
-    let mut n = 0;
-    let mut i = 0;
-    while i < places.len() {
-        n += one_if(places[i] == 0);
-        i += 1;
-    }
-    n
+    places.iter().filter(|place| **place == 0).count()
 }
 
 // Where the data of 1,024 elements stops, of a byte each.
-fn ends_of_bytes() -> [u32; 1024]
-    ensures { 1024 ≡ length result }
-{
+fn ends_of_bytes() -> [u32; 1024] {
     let mut ends = [0u32; 1024];
-    let mut i = 0;
-    let mut end = 0;
-    while i < 1024 {
-        end += 1;
-        ends[i] = end;
-        i += 1;
+    for (i, end) in ends.iter_mut().enumerate() {
+        *end = i as u32 + 1;
     }
     ends
 }
 
 // The proof's list has the element 1,024 times.
 fn say_verdict(rt: &impl Print, retry_counter: RetryCounter, search_counter: SearchCounter) {
-    let data = [b'a'; 1024];
-    let ends = ends_of_bytes();
-    let marks = [1u8; 1024];
-    let indexes = [7u64; 1024];
-    let verdict = centralized_telescope::verify(
-        settings(),
-        retry_counter,
-        search_counter,
-        &data,
-        &ends,
-        &marks,
-        &indexes,
-    );
-    let number = verdict_number(verdict) as u64;
-    if number == 0 {
-        say(rt, b"the verifier accepts it\n");
-        return;
+    let list = Lent {
+        data: &[b'a'; 1024],
+        ends: &ends_of_bytes(),
+        marks: &[1; 1024],
+        indexes: &[7; 1024],
+    };
+    match centralized_telescope::verify(settings(), retry_counter, search_counter, list) {
+        Ok(()) => {
+            let _ = println!(rt; "the verifier accepts it");
+        }
+        Err(rejection) => say_outcome(rt, "THE VERIFIER REFUSES IT", rejection),
     }
-    say_outcome(rt, b"THE VERIFIER REFUSES IT", number);
 }
 
 fn say_found(
@@ -86,38 +63,29 @@ fn say_found(
     count: u64,
     places: &[u32],
 ) {
-    say(rt, b"found with R ");
-    say_number(rt, retry_counter.0);
-    say(rt, b", S ");
-    say_number(rt, search_counter.0);
-    say(rt, b" after ");
-    say_number(rt, count);
-    say(rt, b" steps\nplaces that are the first: ");
-    say_number(rt, first_places(places) as u64);
-    say(rt, b" of 1024\n");
+    let r = retry_counter.0;
+    let s = search_counter.0;
+    let first = first_places(places);
+    let _ = println!(rt;
+        "found with R {r}, S {s} after {count} steps\nplaces that are the first: {first} of 1024"
+    );
 }
 
 fn main(rt: HostRuntime) {
-    let data = [b'a'; 1];
-    let ends = [1u32; 1];
-    let marks = [1u8; 1];
-    let indexes = [7u64; 1];
+    let list = Lent {
+        data: b"a",
+        ends: &[1],
+        marks: &[1],
+        indexes: &[7],
+    };
     let mut places = [1u32; 1024];
     let mut table = [0u32; 4];
-    let found = centralized_telescope::prove(
-        settings(),
-        &data,
-        &ends,
-        &marks,
-        &indexes,
-        &mut places,
-        &mut table,
-    );
-    match found {
-        ProofSearch::Found(retry_counter, search_counter, count) => {
+    match centralized_telescope::prove(settings(), list, &mut places, &mut table) {
+        Ok(Search::Found(retry_counter, search_counter, count)) => {
             say_found(&rt, retry_counter, search_counter, count, &places);
             say_verdict(&rt, retry_counter, search_counter);
         }
-        _ => say_outcome(&rt, b"NOT FOUND", proof_search_number(found) as u64),
+        Ok(nothing) => say_outcome(&rt, "NOT FOUND", nothing),
+        Err(k) => say_outcome(&rt, "NOT FOUND", k),
     }
 }

@@ -1,35 +1,18 @@
 -- The answer of planning in numbers.
-use mathlib.Core.Path.{◌≡◌, ap, ◌∙◌}
-use mathlib.Core.List.{List, [], ◌∷◌}
-use Prim.Native.Nat.{ℕ, ◌≤◌, ◌<◌}
-use native.Mathlib.Omega.{arith}
-use borrow.Author.Tests.{le-leb, lt-leb}
-use lib.ListN.{length, set}
-use lib.Seq.{sets-eq}
-use Rattle.centralized_telescope.specs.later.Plan.{planned, planned_by}
+use mathlib.Core.Path.{◌≡◌}
+use mathlib.Core.List.{List}
+use Prim.Native.Nat.{ℕ}
+use Rattle.centralized_telescope.specs.later.Plan.{planned}
 use Rattle.centralized_telescope.specs.declared.params.Params.{Params}
 use Rattle.centralized_telescope.specs.declared.planning.Amounts.{Amounts}
-use Rattle.centralized_telescope.specs.declared.planning.Planned.{Planned}
-use Rattle.harness_exports.specs.declared.PlanNumbers.{PlanNumbers}
-use Rattle.harness_exports.specs.Exported.{in_plan_numbers, plan_numbers, with_amounts, exported_plan}
+use Rattle.harness_exports.specs.Exported.{with_amounts, exported_plan}
 
--- four stores
-pub amounts_put : (out : List ℕ) (a : Amounts) → 4 ≤ length out
-    → set (set (set (set out 0 a.places) 1 a.bin_table) 2 a.most_steps) 3 a.ticket_blocks ≡ with_amounts a out
-unfolding with_amounts
-amounts_put out a h =
-    rw (le-leb 4 (length out) h) (sets-eq (a.places ∷ a.bin_table ∷ a.most_steps ∷ a.ticket_blocks ∷ []) out 0 (omega arith))
-
-pub amounts_left : (out : List ℕ) (a : Amounts) → length out < 4 → out ≡ with_amounts a out
-unfolding with_amounts
-amounts_left out a h = rw (lt-leb 4 (length out) h)
-
-pub exported_planned : (p : Params) (longest : ℕ) (out : List ℕ) (a : Planned) (n : PlanNumbers) (out' : List ℕ)
-    → planned_by a ≡ planned p longest
-    → n ≡ plan_numbers a
-    → out' ≡ with_amounts n.amounts out
-    → (n.number, out') ≡ exported_plan p longest out
+-- r is what the definition answers for q, the settings made
+pub exported_planned : (p q : Params) (longest : ℕ) (out : List ℕ) (r : ℕ × Amounts) (k : ℕ) (out' : List ℕ)
+    → q ≡ p
+    → r ≡ planned q longest
+    → k ≡ r.0
+    → out' ≡ with_amounts r.1 out
+    → (k, out') ≡ exported_plan p longest out
 unfolding exported_plan
-exported_planned p longest out a n out' e en eo =
-    let m : n ≡ in_plan_numbers (planned p longest) = en ∙ ap in_plan_numbers e in
-    rw (eo, m)
+exported_planned p q longest out r k out' s e ek eo = rw (ek, eo, e, s)

@@ -1,31 +1,34 @@
 -- What the harness's own calls answer.
-use Rattle.std.specs.Prelude.{◌≡◌, Bool, cond, List, [], ◌∷◌, ℕ, zero, suc, eqb, leb, ltb, Float, length, drop}
+use Rattle.std.specs.Prelude.{◌≡◌, Bool, cond, List, [], ◌∷◌, ℕ, zero, suc, eqb, leb, ltb, Float, length}
 use Rattle.sampling.specs.core.Hash.{hashed}
+use Rattle.std.specs.Borrow.{MutBor}
+use denote.Triple.Both.{Both}
 use Rattle.centralized_telescope.specs.core.Elements.{Lent, lent_of}
 use Rattle.centralized_telescope.specs.core.Lists.{over}
 use Rattle.centralized_telescope.specs.later.Distinct.{distinct}
 use Rattle.centralized_telescope.specs.later.SmallCase.{small_case}
-use Rattle.centralized_telescope.specs.later.Plan.{planned, planned_by}
-use Rattle.centralized_telescope.specs.later.Pool.{pool_size, pool_size_by, pool_data, proved_pool}
+use Rattle.centralized_telescope.specs.later.Plan.{planned}
+use Rattle.centralized_telescope.specs.later.Pool.{pool_size, pool_data, proved_pool}
 use Rattle.centralized_telescope.specs.later.Prepare.{prepared, committed}
-use Rattle.centralized_telescope.specs.later.ProofSize.{SizeIs, size_by}
-use Rattle.centralized_telescope.specs.core.Prover.{Proved, proved, proved_by}
-use Rattle.centralized_telescope.specs.later.Tickets.{TicketWritten, ticket_written, ticket_written_by, TicketRead, ticket_read, ticket_read_by}
+use Rattle.centralized_telescope.specs.later.ProofSize.{SizeIs}
+use Rattle.centralized_telescope.specs.core.Prover.{Proved, proved}
+use Rattle.centralized_telescope.specs.later.Tickets.{TicketWritten, ticket_written, TicketRead, ticket_read}
 use Rattle.centralized_telescope.specs.later.TwoProducts.{both_tried}
 use Rattle.centralized_telescope.specs.declared.params.Params.{Params}
 use Rattle.centralized_telescope.specs.declared.planning.Amounts.{Amounts}
-use Rattle.centralized_telescope.specs.declared.planning.Planned.{Planned}
-use Rattle.centralized_telescope.specs.declared.pool.PoolSize.{PoolSize}
-use Rattle.centralized_telescope.specs.declared.search.ProofSearch.{ProofSearch}
-use Rattle.centralized_telescope.specs.declared.security.SmallestSize.{SmallestSize}
-use Rattle.centralized_telescope.specs.declared.ticket.TicketBlocks.{TicketBlocks}
-use Rattle.centralized_telescope.specs.declared.ticket.TicketProof.{TicketProof}
-use Rattle.harness_exports.specs.declared.Numbers.{Numbers}
-use Rattle.harness_exports.specs.declared.BlocksNumbers.{BlocksNumbers}
-use Rattle.harness_exports.specs.declared.ReadNumbers.{ReadNumbers}
-use Rattle.harness_exports.specs.declared.PlanNumbers.{PlanNumbers}
-use Rattle.harness_exports.specs.declared.SizeNumbers.{SizeNumbers}
 use Rattle.centralized_telescope.specs.declared.params.SmallSettings.{SmallSettings}
+
+-- a buffer that is lent for writing as a contract has it, at the call and at the end
+abbrev pub Buffer : Type 0
+Buffer = Both (MutBor (List ℕ)) (MutBor (List ℕ))
+
+-- what four buffers hold at the call
+abbrev pub buffers_at_entry : Buffer → Buffer → Buffer → Buffer → Lent
+buffers_at_entry bytes ends marks indexes = lent_of bytes.entry.now ends.entry.now marks.entry.now indexes.entry.now
+
+-- the list that four buffers hold at the end of a call
+abbrev pub lent_at_exit : Buffer → Buffer → Buffer → Buffer → Lent
+lent_at_exit bytes ends marks indexes = lent_of bytes.exit.now ends.exit.now marks.exit.now indexes.exit.now
 
 -- the hash of m: its number, and the lent bytes afterwards; 8 where they aren't 32
 unfoldable pub exported_hash : List ℕ → List ℕ → ℕ × List ℕ
@@ -53,26 +56,23 @@ said (suc k) r = suc k
 unfoldable pub exported_distinct : Lent → ℕ
 exported_distinct lent = let r : ℕ × Bool = distinct lent in said r.0 r.1
 
+-- numbers in the first lent ones, where there are as many
+unfoldable pub with_numbers : List ℕ → List ℕ → List ℕ
+with_numbers numbers out = cond (leb (length numbers) (length out)) (over numbers out) out
+
 -- ---- the prover
 
--- an answer that has no proof: a refusal, whose count is 0, or the end of the search
-abbrev pub without_proof : ℕ → ℕ → Numbers
-without_proof k count = record { number = k; retry = 0; search = 0; count = count }
+-- R, S and the step count
+abbrev pub counters_of : Proved → List ℕ
+counters_of r = r.retry ∷ r.search ∷ r.count ∷ []
 
--- the numbers of an answer
-abbrev pub in_numbers : Proved → Numbers
-in_numbers r = record { number = r.number; retry = r.retry; search = r.search; count = r.count }
-
-abbrev pub search_numbers : ProofSearch → Numbers
-search_numbers a = in_numbers (proved_by a [] [])
-
--- R, S and the step count in the first three lent numbers, where there are as many
-unfoldable pub with_counters : Numbers → List ℕ → List ℕ
-with_counters n out = cond (leb 3 (length out)) (n.retry ∷ n.search ∷ n.count ∷ drop 3 out) out
+-- these in the first three lent numbers, where there are as many
+abbrev pub with_counters : Proved → List ℕ → List ℕ
+with_counters r out = with_numbers (counters_of r) out
 
 -- the number, and places, bin table and the lent numbers afterwards
 abbrev pub exported_search : Proved → List ℕ → ℕ × List ℕ × List ℕ × List ℕ
-exported_search r out = (r.number, r.places, r.table, with_counters (in_numbers r) out)
+exported_search r out = (r.number, r.places, r.table, with_counters r out)
 
 unfoldable pub exported_prove : Params → Lent → List ℕ → List ℕ → List ℕ → ℕ × List ℕ × List ℕ × List ℕ
 exported_prove p lent places table out = exported_search (proved p lent places table) out
@@ -83,16 +83,9 @@ exported_prove_pool p first second places table out = exported_search (proved_po
 
 -- ---- tickets
 
--- the numbers of the writer's answer
-abbrev pub in_blocks_numbers : TicketWritten → BlocksNumbers
-in_blocks_numbers r = record { number = r.number; blocks = r.count }
-
-abbrev pub blocks_numbers : TicketBlocks → BlocksNumbers
-blocks_numbers a = in_blocks_numbers (ticket_written_by a [])
-
 -- a number in the first lent one, where there is one
-unfoldable pub with_first : ℕ → List ℕ → List ℕ
-with_first v out = cond (leb 1 (length out)) (v ∷ drop 1 out) out
+abbrev pub with_first : ℕ → List ℕ → List ℕ
+with_first v out = with_numbers (v ∷ []) out
 
 -- the number, and the lent blocks and numbers afterwards
 unfoldable pub exported_write_ticket : ℕ → ℕ → Lent → List ℕ → List ℕ → ℕ × List ℕ × List ℕ
@@ -100,35 +93,21 @@ exported_write_ticket R S lent blocks out =
     let r : TicketWritten = ticket_written R S lent blocks in
     (r.number, r.buffer, with_first r.count out)
 
--- the numbers of the reader's answer
-abbrev pub in_read_numbers : TicketRead → ReadNumbers
-in_read_numbers r = record { number = r.number; retry = r.retry; search = r.search; count = r.count; len = r.len }
-
-abbrev pub read_numbers : TicketProof → ReadNumbers
-read_numbers a = in_read_numbers (ticket_read_by a (lent_of [] [] [] []))
-
 -- R, S, the number of elements and that of data bytes in the first four lent numbers, where there are as many
-unfoldable pub with_read : ReadNumbers → List ℕ → List ℕ
-with_read n out = cond (leb 4 (length out)) (n.retry ∷ n.search ∷ n.count ∷ n.len ∷ drop 4 out) out
+abbrev pub with_read : TicketRead → List ℕ → List ℕ
+with_read r out = with_numbers (r.retry ∷ r.search ∷ r.count ∷ r.len ∷ []) out
 
 -- the number, and the lent buffers and numbers afterwards
 unfoldable pub exported_read_ticket : List ℕ → Lent → List ℕ → ℕ × Lent × List ℕ
 exported_read_ticket t buffers out =
     let r : TicketRead = ticket_read t buffers in
-    (r.number, r.buffers, with_read (in_read_numbers r) out)
+    (r.number, r.buffers, with_read r out)
 
 -- ---- planning
 
--- the number and the amounts of an answer
-abbrev pub in_plan_numbers : ℕ × Amounts → PlanNumbers
-in_plan_numbers r = record { number = r.0; amounts = r.1 }
-
-abbrev pub plan_numbers : Planned → PlanNumbers
-plan_numbers a = in_plan_numbers (planned_by a)
-
 -- places, bin-table numbers, steps and blocks in the first four lent numbers, where there are as many
-unfoldable pub with_amounts : Amounts → List ℕ → List ℕ
-with_amounts a out = cond (leb 4 (length out)) (a.places ∷ a.bin_table ∷ a.most_steps ∷ a.ticket_blocks ∷ drop 4 out) out
+abbrev pub with_amounts : Amounts → List ℕ → List ℕ
+with_amounts a out = with_numbers (a.places ∷ a.bin_table ∷ a.most_steps ∷ a.ticket_blocks ∷ []) out
 
 -- the number, and the lent numbers afterwards
 unfoldable pub exported_plan : Params → ℕ → List ℕ → ℕ × List ℕ
@@ -136,19 +115,11 @@ exported_plan p longest out = ((planned p longest).0, with_amounts (planned p lo
 
 -- ---- the proof size
 
--- the number and the size of an answer
-abbrev pub size_numbers : SmallestSize → SizeNumbers
-size_numbers a = record { number = (size_by a).0; size = (size_by a).1 }
-
 -- the number, and the lent numbers afterwards: the size, 0 with a refusal, in the first of them
 abbrev pub ExportedSize : ℕ → ℕ → ℕ → ℕ → List ℕ → ℕ → List ℕ → Type 0
 ExportedSize s c n f out number out' = (u : ℕ) × SizeIs s c n f number u × (out' ≡ with_first u out)
 
 -- ---- the pool
-
--- the number and the size of an answer
-abbrev pub pool_numbers : PoolSize → SizeNumbers
-pool_numbers a = record { number = (pool_size_by a).0; size = (pool_size_by a).1 }
 
 -- the number, and the lent numbers afterwards: the size, 0 with a refusal, in the first of them
 unfoldable pub exported_pool_size : Lent → Lent → List ℕ → ℕ × List ℕ
@@ -176,12 +147,12 @@ exported_commit p digest lent places table out =
 -- ---- two parties
 
 -- number, S and step count of the first, then of the second
-abbrev pub parties_numbers : Numbers → Numbers → List ℕ
+abbrev pub parties_numbers : Proved → Proved → List ℕ
 parties_numbers a b = a.number ∷ a.search ∷ a.count ∷ b.number ∷ b.search ∷ b.count ∷ []
 
 -- 0, each party's places, and the lent numbers
 abbrev pub parties_served : Proved × Proved → ℕ × List ℕ × List ℕ × List ℕ
-parties_served r = (0, r.0.places, r.1.places, parties_numbers (in_numbers r.0) (in_numbers r.1))
+parties_served r = (0, r.0.places, r.1.places, parties_numbers r.0 r.1)
 
 -- both served from one list and one bin table; 8 with all as it was where the lent numbers aren't six
 unfoldable pub exported_two_products : Lent → ℕ → List ℕ → Params → ℕ → List ℕ → Params → ℕ → List ℕ → List ℕ

@@ -1,23 +1,25 @@
 // Calls that the Rust harness alone makes, on numbers and byte slices. They are no part of what a loader links.
 #![tactic(auto)]
 
-ghost use Rattle.std.specs.Prelude.{◌≡◌, ◌++◌, length};
+ghost use Rattle.std.specs.Prelude.{◌≡◌, [], ◌++◌, length};
 ghost use Rattle.centralized_telescope.specs.later.Blocks.{bodies_of};
 ghost use Rattle.centralized_telescope.specs.core.Elements.{lent_at_entry};
-ghost use Rattle.centralized_telescope.specs.later.Words.{buffers_at_entry, lent_at_exit};
+ghost use Rattle.harness_exports.specs.Exported.{buffers_at_entry, lent_at_exit};
 ghost use Rattle.centralized_telescope.specs.core.Params.{settings_of};
 ghost use Rattle.centralized_telescope.specs.later.Tickets.{blocks_in};
-ghost use Rattle.harness_exports.specs.Exported.{exported_hash, six, exported_small_case, exported_distinct, without_proof, search_numbers};
-ghost use Rattle.harness_exports.specs.Exported.{with_counters, exported_prove, blocks_numbers, with_first, exported_write_ticket};
-ghost use Rattle.harness_exports.specs.Exported.{read_numbers, with_read, exported_read_ticket, plan_numbers, with_amounts, exported_plan};
-ghost use Rattle.harness_exports.specs.Exported.{size_numbers, ExportedSize, exported_prove_pool, pool_numbers, exported_pool_size};
+ghost use Rattle.centralized_telescope.specs.core.Prover.{proved_by};
+ghost use Rattle.centralized_telescope.specs.later.ProofSize.{size_by};
+ghost use Rattle.harness_exports.specs.Exported.{exported_hash, six, exported_small_case, exported_distinct};
+ghost use Rattle.harness_exports.specs.Exported.{with_numbers, counters_of, with_counters, exported_prove};
+ghost use Rattle.harness_exports.specs.Exported.{with_first, exported_write_ticket};
+ghost use Rattle.harness_exports.specs.Exported.{exported_read_ticket, exported_plan};
+ghost use Rattle.harness_exports.specs.Exported.{ExportedSize, exported_prove_pool, exported_pool_size};
 ghost use Rattle.harness_exports.specs.Exported.{exported_pool_data, exported_prepare, exported_commit, parties_numbers};
 ghost use Rattle.harness_exports.specs.Exported.{exported_two_products};
 
 use centralized_telescope::{
-    Amounts, Distinctness, Planned, PoolSize, ProofSearch, RetryCounter, SearchCounter, SmallCase,
-    SmallSettings, SmallestSize, TicketBlocks, TicketProof, TwoAnswers, proof_search_number,
-    refusal_number, settings_of,
+    Buffers, Lent, Party, Refusal, RetryCounter, Search, SearchCounter, Shared, SmallSettings,
+    TwoAnswers, proof_search_number, refusal_number, settings_of,
 };
 
 // SHA-256 of four strings joined into 32 lent bytes: 0 with the digest, 9 with zeros, or 8 with nothing written where `out`
@@ -29,10 +31,12 @@ pub fn alba_sha256(a: &[u8], b: &[u8], c: &[u8], d: &[u8], out: &mut [u8]) -> u3
     if out.len() != 32 {
         return 8;
     }
-    let hashed = sampling::sha256::sha256(a, b, c, d);
-    let digest = hashed.digest;
+    let (number, digest) = match sampling::sha256::sha256(a, b, c, d) {
+        Ok(digest) => (0, digest),
+        Err(refused) => (u32::from(refused), [0u8; 32]),
+    };
     out.copy_from_slice(&digest);
-    hashed.number
+    number
 }
 
 // Settings as six numbers.
@@ -40,13 +44,14 @@ fn put_settings(s: SmallSettings, out: &mut [u64])
     requires { length out.old ≡ 6 }
     ensures { out.new ≡ six s }
 {
-    out[0] = s.proof_size;
-    out[1] = s.max_retries;
-    out[2] = s.search_width;
-    out[3] = s.dfs_bound;
-    let x = s.x;
-    out[4] = x.hi;
-    out[5] = x.lo;
+    out.copy_from_slice(&[
+        s.proof_size,
+        s.max_retries,
+        s.search_width,
+        s.dfs_bound,
+        s.x.hi,
+        s.x.lo,
+    ]);
 }
 
 // The small case's settings into six lent numbers, proof_size, max_retries, search_width, dfs_bound and the halves of X, the high one
@@ -57,13 +62,12 @@ pub fn alba_small_case(u: u64, c: f64, out: &mut [u64]) -> u32
     if out.len() != 6 {
         return 8;
     }
-    let answer = centralized_telescope::param_small_case(u, c);
-    match answer {
-        SmallCase::Settings(s) => {
-            put_settings(s, out);
+    match centralized_telescope::param_small_case(u, c) {
+        Ok(settings) => {
+            put_settings(settings, out);
             0
         }
-        SmallCase::Refused(k) => refusal_number(k),
+        Err(k) => refusal_number(k),
     }
 }
 
@@ -72,64 +76,51 @@ pub fn alba_small_case(u: u64, c: f64, out: &mut [u64]) -> u32
 pub fn alba_check_distinct(data: &[u8], ends: &[u32], marks: &[u8], indexes: &[u64]) -> u32
     ensures { result ≡ exported_distinct (lent_at_entry «data» ends marks indexes) }
 {
-    let answer = centralized_telescope::check_distinct(data, ends, marks, indexes);
+    let list = Lent {
+        data,
+        ends,
+        marks,
+        indexes,
+    };
+    match centralized_telescope::check_distinct(list) {
+        Ok(distinct) => u32::from(!distinct),
+        Err(k) => refusal_number(k),
+    }
+}
+
+// Numbers into the first lent ones, if there are as many.
+#[tactic(auto, using(crate::proofs::Answer::numbers_put, crate::proofs::Answer::numbers_left))]
+fn put<const N: usize>(numbers: [u64; N], out: &mut [u64])
+    ensures { out.new ≡ with_numbers numbers.entry out.old }
+{
+    if N <= out.len() {
+        out[..N].copy_from_slice(&numbers);
+    }
+}
+
+// R, S and the step count of the prover's answer, 0 for each that it has not.
+fn counters_of(answer: Result<Search, Refusal>) -> [u64; 3]
+    ensures { result ≡ counters_of (proved_by answer [] []) }
+{
     match answer {
-        Distinctness::Distinct => 0,
-        Distinctness::Repeated => 1,
-        Distinctness::Refused(k) => refusal_number(k),
+        Ok(Search::Found(retry, search, count)) => [retry.0, search.0, count],
+        Ok(Search::NotFoundInBounds(count)) | Ok(Search::NotFound(count)) => [0, 0, count],
+        Err(_) => [0, 0, 0],
     }
 }
 
-// What the prover answers, in numbers.
-#[derive(Clone, Copy)]
-pub struct Numbers {
-    pub number: u32,
-    pub retry: u64,
-    pub search: u64,
-    pub count: u64,
-}
-
-fn without_proof(number: u32, count: u64) -> Numbers
-    ensures { result ≡ without_proof number count }
+// The number of the prover's answer, with R, S and the step count in the first three lent numbers, if there are as many.
+fn put_search(answer: Result<Search, Refusal>, out: &mut [u64]) -> u32
+    ensures number { result ≡ (proved_by answer [] []).number }
+    ensures put { out.new ≡ with_counters (proved_by answer [] []) out.old }
 {
-    Numbers {
-        number,
-        retry: 0,
-        search: 0,
-        count,
-    }
-}
-
-fn numbers_of(answer: ProofSearch) -> Numbers
-    ensures { result ≡ search_numbers answer }
-{
-    let number = proof_search_number(answer);
-    match answer {
-        ProofSearch::Found(retry, search, count) => Numbers {
-            number,
-            retry: retry.0,
-            search: search.0,
-            count,
-        },
-        ProofSearch::NotFoundInBounds(count) => without_proof(number, count),
-        ProofSearch::NotFound(count) => without_proof(number, count),
-        ProofSearch::Refused(_) => without_proof(number, 0),
-    }
-}
-
-// The counters and the step count into the first three lent numbers, if there are as many.
-fn put_counters(n: Numbers, out: &mut [u64])
-    ensures { out.new ≡ with_counters n out.old }
-{
-    if 3 <= out.len() {
-        out[0] = n.retry;
-        out[1] = n.search;
-        out[2] = n.count;
-    }
+    put(counters_of(answer), out);
+    proof_search_number(answer)
 }
 
 // The prover: 0 or the number. X is passed as its high word, then its low. `out` takes R, S and the step count where it has three numbers
 // or more.
+#[tactic(auto, using(crate::proofs::ProverNumbers::exported_so), unfolding(crate::specs::Exported::exported_prove))]
 pub fn alba_prove(
     set_size: u64,
     proof_size: u64,
@@ -159,13 +150,18 @@ pub fn alba_prove(
         x_high,
         x_low,
     );
-    let answer = centralized_telescope::prove(p, data, ends, marks, indexes, places, table);
-    let n = numbers_of(answer);
-    put_counters(n, out);
-    n.number
+    let list = Lent {
+        data,
+        ends,
+        marks,
+        indexes,
+    };
+    let answer = centralized_telescope::prove(p, list, places, table);
+    put_search(answer, out)
 }
 
 // The prover over the pool of two lists, as `alba_prove`.
+#[tactic(auto, using(crate::proofs::ProverNumbers::exported_so), unfolding(crate::specs::Exported::exported_prove_pool))]
 pub fn alba_prove_pool<'a>(
     set_size: u64,
     proof_size: u64,
@@ -200,42 +196,36 @@ pub fn alba_prove_pool<'a>(
         x_high,
         x_low,
     );
-    let answer = centralized_telescope::prove_pool(
-        p, data, ends, marks, indexes, data2, ends2, marks2, indexes2, places, table,
-    );
-    let n = numbers_of(answer);
-    put_counters(n, out);
-    n.number
+    let list = Lent {
+        data,
+        ends,
+        marks,
+        indexes,
+    };
+    let list2 = Lent {
+        data: data2,
+        ends: ends2,
+        marks: marks2,
+        indexes: indexes2,
+    };
+    let answer = centralized_telescope::prove_pool(p, list, list2, places, table);
+    put_search(answer, out)
 }
 
-// What the writer of tickets answers, in numbers.
-#[derive(Clone, Copy)]
-pub struct BlocksNumbers {
-    pub number: u32,
-    pub blocks: u64,
-}
-
-fn blocks_numbers(answer: TicketBlocks) -> BlocksNumbers
-    ensures { result ≡ blocks_numbers answer }
+// The number of an answer that is a size, with the size, 0 with a refusal, in the first lent number, if there is one.
+fn put_size(answer: Result<u64, Refusal>, out: &mut [u64]) -> u32
+    ensures number { result ≡ (size_by answer).0 }
+    ensures put { out.new ≡ with_first (size_by answer).1 out.old }
 {
     match answer {
-        TicketBlocks::Written(n) => BlocksNumbers {
-            number: 0,
-            blocks: n as u64,
-        },
-        TicketBlocks::Refused(k) => BlocksNumbers {
-            number: refusal_number(k),
-            blocks: 0,
-        },
-    }
-}
-
-// A number into the first lent one, if there is one.
-fn put_first(v: u64, out: &mut [u64])
-    ensures { out.new ≡ with_first v out.old }
-{
-    if 1 <= out.len() {
-        out[0] = v;
+        Ok(size) => {
+            put([size], out);
+            0
+        }
+        Err(k) => {
+            put([0], out);
+            refusal_number(k)
+        }
     }
 }
 
@@ -253,61 +243,19 @@ pub fn alba_write_ticket(
     ensures { (result, «ticket».new, out.new)
         ≡ exported_write_ticket retry search (lent_at_entry «data» ends marks indexes) «ticket».old out.old }
 {
-    let answer = centralized_telescope::write_ticket(
-        RetryCounter(retry),
-        SearchCounter(search),
+    let list = Lent {
         data,
         ends,
         marks,
         indexes,
+    };
+    let answer = centralized_telescope::write_ticket(
+        RetryCounter(retry),
+        SearchCounter(search),
+        list,
         ticket,
     );
-    let n = blocks_numbers(answer);
-    put_first(n.blocks, out);
-    n.number
-}
-
-// What the reader of tickets answers, in numbers.
-#[derive(Clone, Copy)]
-pub struct ReadNumbers {
-    pub number: u32,
-    pub retry: u64,
-    pub search: u64,
-    pub count: u64,
-    pub len: u64,
-}
-
-fn read_numbers(answer: TicketProof) -> ReadNumbers
-    ensures { result ≡ read_numbers answer }
-{
-    match answer {
-        TicketProof::Read(retry, search, count, len) => ReadNumbers {
-            number: 0,
-            retry: retry.0,
-            search: search.0,
-            count: count as u64,
-            len: len as u64,
-        },
-        TicketProof::Refused(k) => ReadNumbers {
-            number: refusal_number(k),
-            retry: 0,
-            search: 0,
-            count: 0,
-            len: 0,
-        },
-    }
-}
-
-// R, S, the number of elements and that of data bytes into the first four lent numbers, if there are as many.
-fn put_read(n: ReadNumbers, out: &mut [u64])
-    ensures { out.new ≡ with_read n out.old }
-{
-    if 4 <= out.len() {
-        out[0] = n.retry;
-        out[1] = n.search;
-        out[2] = n.count;
-        out[3] = n.len;
-    }
+    put_size(answer.map(|blocks| blocks as u64), out)
 }
 
 // The reader of tickets: 0 or the number. `out` takes R, S, the number of elements and that of data bytes, zeros with a refusal, where it
@@ -323,10 +271,30 @@ pub fn alba_read_ticket(
     ensures { (result, lent_at_exit «data» ends marks indexes, out.new)
         ≡ exported_read_ticket «ticket».now (buffers_at_entry «data» ends marks indexes) out.old }
 {
-    let answer = centralized_telescope::read_ticket(ticket, data, ends, marks, indexes);
-    let n = read_numbers(answer);
-    put_read(n, out);
-    n.number
+    let mut buffers = Buffers {
+        data,
+        ends,
+        marks,
+        indexes,
+    };
+    match centralized_telescope::read_ticket(ticket, &mut buffers) {
+        Ok(proof) => {
+            put(
+                [
+                    proof.retry.0,
+                    proof.search.0,
+                    proof.elements as u64,
+                    proof.bytes as u64,
+                ],
+                out,
+            );
+            0
+        }
+        Err(k) => {
+            put([0, 0, 0, 0], out);
+            refusal_number(k)
+        }
+    }
 }
 
 // The number of blocks that a ticket states; 0 where there isn't one block whole.
@@ -336,44 +304,9 @@ pub fn alba_stated_blocks(ticket: &[u8]) -> u64
     centralized_telescope::stated_blocks(ticket)
 }
 
-// What planning answers, in numbers.
-#[derive(Clone, Copy)]
-pub struct PlanNumbers {
-    pub number: u32,
-    pub amounts: Amounts,
-}
-
-fn plan_numbers(answer: Planned) -> PlanNumbers
-    ensures { result ≡ plan_numbers answer }
-{
-    match answer {
-        Planned::Amounts(amounts) => PlanNumbers { number: 0, amounts },
-        Planned::Refused(k) => PlanNumbers {
-            number: refusal_number(k),
-            amounts: Amounts {
-                places: 0,
-                bin_table: 0,
-                most_steps: 0,
-                ticket_blocks: 0,
-            },
-        },
-    }
-}
-
-// The amounts into the first four lent numbers, if there are as many.
-fn put_amounts(a: Amounts, out: &mut [u64])
-    ensures { out.new ≡ with_amounts a out.old }
-{
-    if 4 <= out.len() {
-        out[0] = a.places;
-        out[1] = a.bin_table;
-        out[2] = a.most_steps;
-        out[3] = a.ticket_blocks;
-    }
-}
-
 // Planning: 0 or the number. `out` takes places, bin-table numbers, steps and blocks, zeros with a refusal, where it has four numbers or
 // more.
+#[tactic(auto, using(crate::proofs::PlanAnswers::exported_planned))]
 pub fn alba_plan(
     set_size: u64,
     proof_size: u64,
@@ -398,28 +331,23 @@ pub fn alba_plan(
         x_high,
         x_low,
     );
-    let answer = centralized_telescope::plan(p, longest);
-    let n = plan_numbers(answer);
-    put_amounts(n.amounts, out);
-    n.number
-}
-
-// What the search for a proof size answers, in numbers.
-#[derive(Clone, Copy)]
-pub struct SizeNumbers {
-    pub number: u32,
-    pub size: u64,
-}
-
-fn size_numbers(answer: SmallestSize) -> SizeNumbers
-    ensures { result ≡ size_numbers answer }
-{
-    match answer {
-        SmallestSize::Size(size) => SizeNumbers { number: 0, size },
-        SmallestSize::Refused(k) => SizeNumbers {
-            number: refusal_number(k),
-            size: 0,
-        },
+    match centralized_telescope::plan(p, longest) {
+        Ok(amounts) => {
+            put(
+                [
+                    amounts.places,
+                    amounts.bin_table,
+                    amounts.most_steps,
+                    amounts.ticket_blocks,
+                ],
+                out,
+            );
+            0
+        }
+        Err(k) => {
+            put([0, 0, 0, 0], out);
+            refusal_number(k)
+        }
     }
 }
 
@@ -427,25 +355,7 @@ fn size_numbers(answer: SmallestSize) -> SizeNumbers
 pub fn alba_proof_size(s: u64, c: u64, n: u64, f: u64, out: &mut [u64]) -> u32
     ensures { ExportedSize s c n f out.old result out.new }
 {
-    let answer = centralized_telescope::proof_size(s, c, n, f);
-    let numbers = size_numbers(answer);
-    put_first(numbers.size, out);
-    numbers.number
-}
-
-fn pool_numbers(answer: PoolSize) -> SizeNumbers
-    ensures { result ≡ pool_numbers answer }
-{
-    match answer {
-        PoolSize::Of(size) => SizeNumbers {
-            number: 0,
-            size: size as u64,
-        },
-        PoolSize::Refused(k) => SizeNumbers {
-            number: refusal_number(k),
-            size: 0,
-        },
-    }
+    put_size(centralized_telescope::proof_size(s, c, n, f), out)
 }
 
 // The size of the pool of two lists: 0 or the number. `out` takes the size, 0 with a refusal, where it has a number or more.
@@ -463,12 +373,20 @@ pub fn alba_pool_size(
     ensures { (result, out.new)
         ≡ exported_pool_size (lent_at_entry «data» ends marks indexes) (lent_at_entry data2 ends2 marks2 indexes2) out.old }
 {
-    let answer = centralized_telescope::pool_size(
-        data, ends, marks, indexes, data2, ends2, marks2, indexes2,
-    );
-    let n = pool_numbers(answer);
-    put_first(n.size, out);
-    n.number
+    let list = Lent {
+        data,
+        ends,
+        marks,
+        indexes,
+    };
+    let list2 = Lent {
+        data: data2,
+        ends: ends2,
+        marks: marks2,
+        indexes: indexes2,
+    };
+    let answer = centralized_telescope::pool_size(list, list2);
+    put_size(answer.map(|size| size as u64), out)
 }
 
 // The data of the element at a place of the pool: 0 with that part in the first lent bytes and its length in the first lent number, if
@@ -490,22 +408,24 @@ pub fn alba_pool_data<'a>(
         ≡ exported_pool_data (lent_at_entry «data» ends marks indexes) (lent_at_entry data2 ends2 marks2 indexes2) place part.old
         out.old }
 {
-    let own = centralized_telescope::pool_data(
+    let list = Lent {
         data,
         ends,
         marks,
         indexes,
-        data2,
-        ends2,
-        marks2,
-        indexes2,
-        place as usize,
-    );
+    };
+    let list2 = Lent {
+        data: data2,
+        ends: ends2,
+        marks: marks2,
+        indexes: indexes2,
+    };
+    let own = centralized_telescope::pool_data(list, list2, place as usize);
     if part.len() < own.len() {
         return 42;
     }
     part[..own.len()].copy_from_slice(own);
-    put_first(own.len() as u64, out);
+    put([own.len() as u64], out);
     0
 }
 
@@ -543,13 +463,19 @@ pub fn alba_prepare(
         x_high,
         x_low,
     );
-    let answer = centralized_telescope::prepare(p, data, ends, marks, indexes, places, table);
-    if answer.number != 0 {
-        return answer.number;
+    let list = Lent {
+        data,
+        ends,
+        marks,
+        indexes,
+    };
+    match centralized_telescope::prepare(p, list, places, table) {
+        Ok(digest) => {
+            out.copy_from_slice(&digest);
+            0
+        }
+        Err(k) => refusal_number(k),
     }
-    let digest = answer.digest;
-    out.copy_from_slice(&digest);
-    0
 }
 
 // The prover where the digest is that of what it is handed, as `alba_prove`; 8 before all else, with nothing written, where the digest
@@ -589,29 +515,31 @@ pub fn alba_commit(
         x_high,
         x_low,
     );
-    let answer = centralized_telescope::commit(
-        p, prepared, data, ends, marks, indexes, places, table,
-    );
-    let n = numbers_of(answer);
-    put_counters(n, out);
-    n.number
+    let list = Lent {
+        data,
+        ends,
+        marks,
+        indexes,
+    };
+    let answer = centralized_telescope::commit(p, prepared, list, places, table);
+    put_search(answer, out)
 }
 
 // Both parties' answers into six lent numbers: the number, S and the step count of the first, then of the second.
 fn put_parties(answers: TwoAnswers, out: &mut [u64])
     requires { length out.old ≡ 6 }
-    ensures { out.new ≡ parties_numbers (search_numbers answers.first) (search_numbers answers.second) }
+    ensures { out.new ≡ parties_numbers (proved_by answers.first [] []) (proved_by answers.second [] []) }
 {
-    let one = answers.first;
-    let two = answers.second;
-    let first = numbers_of(one);
-    let second = numbers_of(two);
-    out[0] = first.number as u64;
-    out[1] = first.search;
-    out[2] = first.count;
-    out[3] = second.number as u64;
-    out[4] = second.search;
-    out[5] = second.count;
+    let [_, search, count] = counters_of(answers.first);
+    let [_, search2, count2] = counters_of(answers.second);
+    out.copy_from_slice(&[
+        u64::from(proof_search_number(answers.first)),
+        search,
+        count,
+        u64::from(proof_search_number(answers.second)),
+        search2,
+        count2,
+    ]);
 }
 
 // Two parties served from one bin table: 0, with their answers as `put_parties` has them in `out`; 8 with nothing done or written where
@@ -670,20 +598,27 @@ pub fn alba_two_products(
         x_high2,
         x_low2,
     );
-    let answers = centralized_telescope::two_products(
+    let shared = Shared {
+        list: Lent {
+            data,
+            ends,
+            marks,
+            indexes,
+        },
+        retry: RetryCounter(table_retry),
         table,
-        RetryCounter(table_retry),
-        data,
-        ends,
-        marks,
-        indexes,
-        p,
-        RetryCounter(retry),
-        p2,
-        RetryCounter(retry2),
-        places,
-        places2,
+    };
+    let first = Party {
+        settings: p,
+        retry: RetryCounter(retry),
+    };
+    let second = Party {
+        settings: p2,
+        retry: RetryCounter(retry2),
+    };
+    put_parties(
+        centralized_telescope::two_products(shared, first, second, places, places2),
+        out,
     );
-    put_parties(answers, out);
     0
 }

@@ -4,7 +4,7 @@
 ghost use Rattle.std.specs.Prelude.{◌≡◌, ◌++◌, length};
 ghost use Rattle.centralized_telescope.specs.later.Blocks.{bodies_of};
 ghost use Rattle.centralized_telescope.specs.core.Elements.{lent_at_entry};
-ghost use Rattle.centralized_telescope.specs.later.Words.{buffers_at_entry, lent_at_exit};
+ghost use Rattle.harness_exports.specs.Exported.{buffers_at_entry, lent_at_exit};
 ghost use Rattle.centralized_telescope.specs.core.Params.{settings_of};
 ghost use Rattle.centralized_telescope.specs.later.Tickets.{blocks_in};
 ghost use Rattle.harness_exports.specs.Exported.{exported_hash, six, exported_small_case, exported_distinct};

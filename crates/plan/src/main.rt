@@ -15,81 +15,61 @@
 
 mod header;
 
-use arguments::{Asked, Reading, is_word};
+use arguments::{Argument, PastLimits, Reading, is_word};
+use centralized_telescope::Params;
 use std::rt::Env;
-use text::number::Number;
-use text::say::say;
 
 fn say_usage(rt: &impl Print) {
-    say(rt, b"usage: plan security S C N F LONGEST\n");
-    say(rt, b"       plan case SET_SIZE U C LONGEST\n");
-    say(
-        rt,
-        b"       plan settings SET_SIZE PROOF_SIZE MAX_RETRIES SEARCH_WIDTH DFS_BOUND X LONGEST\n",
-    );
-    say(
-        rt,
-        b"S, N, F  soundness, 0 to 256; set size, 2 to 32768; the lower bound to be shown, 1 to N - 1\n",
-    );
-    say(rt, b"U        proof size, 1 to 1024\n");
-    say(
-        rt,
-        b"C        completeness: with S 1 to 1024, with U 0 to 65535; there also 0x and 16 hexadecimal digits of a double\n",
-    );
-    say(
-        rt,
-        b"X        the threshold of 128 bits, in 32 hexadecimal digits\n",
-    );
-    say(
-        rt,
-        b"LONGEST  the most data bytes that an element will have, 0 to 4096\n",
-    );
-    say(
-        rt,
-        b"A C header is printed: the settings, and how much to reserve for a run\n",
+    let _ = print!(rt;
+        "\
+usage: plan security S C N F LONGEST
+       plan case SET_SIZE U C LONGEST
+       plan settings SET_SIZE PROOF_SIZE MAX_RETRIES SEARCH_WIDTH DFS_BOUND X LONGEST
+S, N, F  soundness, 0 to 256; set size, 2 to 32768; the lower bound to be shown, 1 to N - 1
+U        proof size, 1 to 1024
+C        completeness: with S 1 to 1024, with U 0 to 65535; there also 0x and 16 hexadecimal digits of a double
+X        the threshold of 128 bits, in 32 hexadecimal digits
+LONGEST  the most data bytes that an element will have, 0 to 4096
+A C header is printed: the settings, and how much to reserve for a run
+"
     );
 }
 
 // The settings follow the first word, each within its limits.
-fn behind_word() -> Reading {
-    Reading {
-        first: 2,
-        limited: true,
-    }
-}
+const BEHIND_WORD: Reading = Reading {
+    first: 2,
+    past_limits: PastLimits::Said,
+};
 
 // The longest data, which is the last argument.
-fn longest_at(rt: &(impl Env + Print), last: usize) -> Number {
-    arguments::whole_within(rt, last, b"LONGEST", 0, 4096)
+fn longest_at(rt: &(impl Env + Print), last: usize) -> Option<u64> {
+    let longest = Argument {
+        place: last,
+        name: "LONGEST",
+    };
+    longest.whole_within(rt, 0..=4096)
 }
 
 // The header for the settings asked for and for the longest data, which is argument `last`; or nothing but the message that says why not.
-fn answer(rt: &(impl Env + Print), asked: Asked, last: usize) {
-    match asked {
-        Asked::Refused => {}
-        Asked::Settings(p) => {
-            let longest = longest_at(rt, last);
-            if longest.known {
-                header::say_planned(rt, p, arguments::no_figures(), longest.value, last);
-            }
-        }
+fn answer(rt: &(impl Env + Print), asked: Option<Params>, last: usize) {
+    let Some(p) = asked else {
+        return;
+    };
+    if let Some(longest) = longest_at(rt, last) {
+        header::say_planned(rt, p, None, longest, last);
     }
 }
 
 // The same for the security figures. A wrong argument is named before it is asked whether any proof size is enough.
 fn answer_security(rt: &(impl Env + Print), last: usize) {
-    let figures = arguments::security_figures(rt, behind_word());
-    if !figures.known {
+    let Some(figures) = BEHIND_WORD.security_figures(rt) else {
         return;
-    }
-    let longest = longest_at(rt, last);
-    if !longest.known {
+    };
+    let Some(longest) = longest_at(rt, last) else {
         return;
-    }
-    let asked = arguments::settings_for(rt, figures);
-    match asked {
-        Asked::Refused => {}
-        Asked::Settings(p) => header::say_planned(rt, p, figures, longest.value, last),
+    };
+    if let Some(p) = figures.settings(rt) {
+        header::say_planned(rt, p, Some(figures), longest, last);
     }
 }
 
@@ -101,11 +81,11 @@ fn main(rt: HostRuntime) {
         return;
     }
     if words == 6 && is_word(&rt, 1, b"case") {
-        answer(&rt, arguments::small_case(&rt, behind_word()), 5);
+        answer(&rt, BEHIND_WORD.small_case(&rt), 5);
         return;
     }
     if words == 9 && is_word(&rt, 1, b"settings") {
-        answer(&rt, arguments::each_by_itself(&rt, behind_word()), 8);
+        answer(&rt, BEHIND_WORD.each_by_itself(&rt), 8);
         return;
     }
     say_usage(&rt);

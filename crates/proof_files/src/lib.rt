@@ -6,16 +6,14 @@
 mod bytes_file;
 pub mod elements;
 mod elements_file;
+mod list;
 mod opening;
 mod proof_file;
 mod report;
-mod rooms;
 
 pub use bytes_file::{is_bytes_written, read_bytes};
-pub use elements_file::{Loaded, read_elements};
-pub use opening::open_read;
-pub use proof_file::{CountersLine, LoadedProof, is_proof_written, is_there, read_proof};
+pub use elements_file::{Unread, read_elements};
+pub use list::{ElementList, FullRoom, ListRoom, first, first_elements};
+pub use opening::{is_taken, open_or_say};
+pub use proof_file::{Counters, is_proof_written, read_proof};
 pub use report::say_of_file;
-pub use rooms::{
-    data_room, ends_room, first_bytes, first_indexes, first_numbers, indexes_room, marks_room,
-};

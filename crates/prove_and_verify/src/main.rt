@@ -26,169 +26,140 @@ mod repeats;
 mod search;
 mod write_and_verify;
 
-use arguments::{Asked, Reading, is_word};
-use search::Wanted;
+use arguments::{Argument, PastLimits, Reading, is_word};
+use centralized_telescope::Params;
+use pool::Names;
 use std::rt::{Env, Files};
-use text::say::say;
 
 fn say_usage(rt: &impl Print) {
-    say(
-        rt,
-        b"usage: prove_and_verify ELEMENTS PROOF SET_SIZE U C [SECOND]\n",
+    let _ = println!(rt; "usage: prove_and_verify ELEMENTS PROOF SET_SIZE U C [SECOND]");
+    let _ = println!(rt;
+        "       prove_and_verify ELEMENTS PROOF SET_SIZE PROOF_SIZE MAX_RETRIES SEARCH_WIDTH DFS_BOUND X [SECOND]"
     );
-    say(
-        rt,
-        b"       prove_and_verify ELEMENTS PROOF SET_SIZE PROOF_SIZE MAX_RETRIES SEARCH_WIDTH DFS_BOUND X [SECOND]\n",
+    let _ = println!(rt; "       prove_and_verify prepare ELEMENTS SETTINGS");
+    let _ = println!(rt; "       prove_and_verify commit DIGEST ELEMENTS PROOF SETTINGS");
+    let _ = println!(rt;
+        "ELEMENTS  a file of elements, one to a line: data in hexadecimal, or -, and perhaps a space and the index"
     );
-    say(rt, b"       prove_and_verify prepare ELEMENTS SETTINGS\n");
-    say(
-        rt,
-        b"       prove_and_verify commit DIGEST ELEMENTS PROOF SETTINGS\n",
+    let _ = println!(rt;
+        "PROOF     the file that the proof is written to, once one is found; it must not be there yet"
     );
-    say(
-        rt,
-        b"ELEMENTS  a file of elements, one to a line: data in hexadecimal, or -, and perhaps a space and the index\n",
+    let _ = println!(rt;
+        "U, C      proof size and completeness of the small case; C a whole number, or 0x and 16 hexadecimal digits of a double"
     );
-    say(
-        rt,
-        b"PROOF     the file that the proof is written to, once one is found; it must not be there yet\n",
+    let _ = println!(rt; "X         the threshold of 128 bits, in 32 hexadecimal digits");
+    let _ = println!(rt;
+        "SECOND    another file of elements: those that equal none of ELEMENTS are added to them, and the proof is over all"
     );
-    say(
-        rt,
-        b"U, C      proof size and completeness of the small case; C a whole number, or 0x and 16 hexadecimal digits of a double\n",
+    let _ = println!(rt;
+        "SETTINGS  SET_SIZE U C, or SET_SIZE PROOF_SIZE MAX_RETRIES SEARCH_WIDTH DFS_BOUND X"
     );
-    say(
-        rt,
-        b"X         the threshold of 128 bits, in 32 hexadecimal digits\n",
-    );
-    say(
-        rt,
-        b"SECOND    another file of elements: those that equal none of ELEMENTS are added to them, and the proof is over all\n",
-    );
-    say(
-        rt,
-        b"SETTINGS  SET_SIZE U C, or SET_SIZE PROOF_SIZE MAX_RETRIES SEARCH_WIDTH DFS_BOUND X\n",
-    );
-    say(
-        rt,
-        b"DIGEST    what `prepare` printed of the run, 64 hexadecimal digits\n",
-    );
+    let _ = println!(rt; "DIGEST    what `prepare` printed of the run, 64 hexadecimal digits");
 }
+
+// Room for a file's name, whose limit messages name: a `Vec` would take longer ones, and may fail for want of memory.
+type NameRoom = [u8; 4096];
 
 // Settings from argument `first` on; what is past its limits the library refuses by number.
 fn from(first: usize) -> Reading {
     Reading {
         first,
-        limited: false,
+        past_limits: PastLimits::Read,
     }
 }
 
-// A proof under the settings asked for, or nothing where a message said why not.
-fn make_proof(rt: &(impl Env + Files + Print), asked: Asked) {
-    let mut elements = io::buffer();
-    let mut proof = io::buffer();
-    match asked {
-        Asked::Refused => {}
-        Asked::Settings(p) => {
-            let n = arguments::path(rt, 1, b"ELEMENTS", &mut elements);
-            let m = arguments::path(rt, 2, b"PROOF", &mut proof);
-            if n != 0 && m != 0 {
-                search::run(rt, p, search::any_run(), &elements[..n], &proof[..m]);
-            }
-        }
+// A file's name, where argument i has one; otherwise a message says so.
+fn path<'a>(
+    rt: &(impl Env + Print),
+    place: usize,
+    name: &str,
+    room: &'a mut NameRoom,
+) -> Option<&'a [u8]> {
+    Argument { place, name }.path(rt, room)
+}
+
+// A proof under settings, over the elements of a file. Each name that is wrong has a message of its own.
+fn make_proof(rt: &(impl Env + Files + Print), p: Params) {
+    let (mut own, mut new) = ([0; 4096], [0; 4096]);
+    let elements = path(rt, 1, "ELEMENTS", &mut own);
+    let proof = path(rt, 2, "PROOF", &mut new);
+    if let (Some(elements), Some(proof)) = (elements, proof) {
+        search::run(rt, p, None, elements, proof);
     }
 }
 
 // The same over the pool of two files, the second of which is argument i.
-fn make_pool_proof(rt: &(impl Env + Files + Print), asked: Asked, i: usize) {
-    let mut elements = io::buffer();
-    let mut second = io::buffer();
-    let mut proof = io::buffer();
-    match asked {
-        Asked::Refused => {}
-        Asked::Settings(p) => {
-            let n = arguments::path(rt, 1, b"ELEMENTS", &mut elements);
-            let m = arguments::path(rt, 2, b"PROOF", &mut proof);
-            let k = arguments::path(rt, i, b"SECOND", &mut second);
-            if n != 0 && m != 0 && k != 0 {
-                pool::run(rt, p, &elements[..n], &second[..k], &proof[..m]);
-            }
-        }
+fn make_pool_proof(rt: &(impl Env + Files + Print), p: Params, i: usize) {
+    let (mut own, mut new, mut other) = ([0; 4096], [0; 4096], [0; 4096]);
+    let elements = path(rt, 1, "ELEMENTS", &mut own);
+    let proof = path(rt, 2, "PROOF", &mut new);
+    let second = path(rt, i, "SECOND", &mut other);
+    if let (Some(elements), Some(proof), Some(second)) = (elements, proof, second) {
+        pool::run(
+            rt,
+            p,
+            Names {
+                elements,
+                second,
+                proof,
+            },
+        );
     }
 }
 
-// What a search under the settings asked for would be, and its digest.
-fn prepare_run(rt: &(impl Env + Files + Print), asked: Asked) {
-    let mut elements = io::buffer();
-    match asked {
-        Asked::Refused => {}
-        Asked::Settings(p) => {
-            let n = arguments::path(rt, 2, b"ELEMENTS", &mut elements);
-            if n != 0 {
-                prepare::run(rt, p, &elements[..n]);
-            }
-        }
+// What a search under settings would be, and its digest.
+fn prepare_run(rt: &(impl Env + Files + Print), p: Params) {
+    let mut own = [0; 4096];
+    if let Some(elements) = path(rt, 2, "ELEMENTS", &mut own) {
+        prepare::run(rt, p, elements);
     }
 }
 
 // A proof as above, if the run is the one that was prepared.
-fn commit_run(rt: &(impl Env + Files + Print), asked: Asked) {
-    let mut elements = io::buffer();
-    let mut proof = io::buffer();
-    match asked {
-        Asked::Refused => {}
-        Asked::Settings(p) => {
-            let digest = arguments::digest(rt, 2, b"DIGEST");
-            let n = arguments::path(rt, 3, b"ELEMENTS", &mut elements);
-            let m = arguments::path(rt, 4, b"PROOF", &mut proof);
-            if digest.known && n != 0 && m != 0 {
-                let bytes = digest.bytes;
-                let wanted = Wanted {
-                    prepared: true,
-                    digest: bytes,
-                };
-                search::run(rt, p, wanted, &elements[..n], &proof[..m]);
-            }
+fn commit_run(rt: &(impl Env + Files + Print), p: Params) {
+    let digest = Argument {
+        place: 2,
+        name: "DIGEST",
+    }
+    .digest(rt);
+    let (mut own, mut new) = ([0; 4096], [0; 4096]);
+    let elements = path(rt, 3, "ELEMENTS", &mut own);
+    let proof = path(rt, 4, "PROOF", &mut new);
+    if let (Some(digest), Some(elements), Some(proof)) = (digest, elements, proof) {
+        search::run(rt, p, Some(digest), elements, proof);
+    }
+}
+
+// What a run is made of: what the words ask for, with the settings that they write. None where there are no such settings, which was said,
+// or the words are none of the program's.
+fn run(rt: &(impl Env + Files + Print), words: usize) -> Option<()> {
+    // The program's own name is among the words.
+    if is_word(rt, 1, b"prepare") {
+        match words {
+            6 => prepare_run(rt, from(3).small_case(rt)?),
+            9 => prepare_run(rt, from(3).each_by_itself(rt)?),
+            _ => say_usage(rt),
         }
+        return Some(());
     }
-}
-
-// The program's own name is among the words, here and below.
-fn say_prepared(rt: &(impl Env + Files + Print), words: usize) {
+    if is_word(rt, 1, b"commit") {
+        match words {
+            8 => commit_run(rt, from(5).small_case(rt)?),
+            11 => commit_run(rt, from(5).each_by_itself(rt)?),
+            _ => say_usage(rt),
+        }
+        return Some(());
+    }
     match words {
-        6 => prepare_run(rt, arguments::small_case(rt, from(3))),
-        9 => prepare_run(rt, arguments::each_by_itself(rt, from(3))),
+        6 => make_proof(rt, from(3).small_case(rt)?),
+        7 => make_pool_proof(rt, from(3).small_case(rt)?, 6),
+        9 => make_proof(rt, from(3).each_by_itself(rt)?),
+        10 => make_pool_proof(rt, from(3).each_by_itself(rt)?, 9),
         _ => say_usage(rt),
     }
-}
-
-fn commit(rt: &(impl Env + Files + Print), words: usize) {
-    match words {
-        8 => commit_run(rt, arguments::small_case(rt, from(5))),
-        11 => commit_run(rt, arguments::each_by_itself(rt, from(5))),
-        _ => say_usage(rt),
-    }
-}
-
-fn prove(rt: &(impl Env + Files + Print), words: usize) {
-    match words {
-        6 => make_proof(rt, arguments::small_case(rt, from(3))),
-        7 => make_pool_proof(rt, arguments::small_case(rt, from(3)), 6),
-        9 => make_proof(rt, arguments::each_by_itself(rt, from(3))),
-        10 => make_pool_proof(rt, arguments::each_by_itself(rt, from(3)), 9),
-        _ => say_usage(rt),
-    }
+    Some(())
 }
 
 fn main(rt: HostRuntime) {
-    let words = arguments::count(&rt);
-    if is_word(&rt, 1, b"prepare") {
-        say_prepared(&rt, words);
-        return;
-    }
-    if is_word(&rt, 1, b"commit") {
-        commit(&rt, words);
-        return;
-    }
-    prove(&rt, words);
+    let _ = run(&rt, arguments::count(&rt));
 }

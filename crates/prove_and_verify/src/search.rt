@@ -1,30 +1,15 @@
 // The search for a proof, and what came of it.
 ghost use Rattle.std.specs.Prelude.{◌≡◌, length};
 
-use crate::write_and_verify::Counters;
 use crate::{repeats, write_and_verify};
-use centralized_telescope::{Params, ProofSearch, proof_search_number};
-use outcomes::say_outcome;
-use proof_files::{first_numbers, is_there, say_of_file};
+use centralized_telescope::{Lent, Params, Refusal, RetryCounter, Search, SearchCounter};
+use outcomes::{say_outcome, say_refused};
+use proof_files::{Counters, FullRoom, first, is_taken};
 use std::rt::Files;
-use text::say::{say, say_figure, say_hex};
+use text::say::say;
 
-// What is searched for: a proof, or a proof of the run that was prepared, which has this digest.
-#[derive(Clone, Copy)]
-pub struct Wanted {
-    pub prepared: bool,
-    pub digest: [u8; 32],
-}
-
-// A proof of whatever run it is.
-pub fn any_run() -> Wanted {
-    Wanted {
-        prepared: false,
-        digest: [0u8; 32],
-    }
-}
-
-// Room for the bin table of the largest set size.
+// Room for the bin table of the largest set size. A function of its own: its caller's proof then sees a length, and not that many numbers.
+// The library has such a function for a table that it builds itself. It is private, since its users lend the table, in a room of their own.
 pub fn table_room() -> [u32; 98305]
     ensures { 98305 ≡ length result }
 {
@@ -33,172 +18,131 @@ pub fn table_room() -> [u32; 98305]
 
 // How many of n elements the search keeps: the first 2 * set_size.
 pub fn kept(n: usize, set_size: u64) -> u64 {
-    let all = n as u64;
-    if all / 2 < set_size {
-        return all;
-    }
-    2 * set_size
-}
-
-fn say_place(rt: &impl Print, place: u32) {
-    say_figure(rt, b" ", place as u64);
-}
-
-fn say_places(rt: &impl Print, places: &[u32]) {
-    let mut i = 0;
-    while i < places.len() {
-        say_place(rt, places[i]);
-        i += 1;
-    }
+    (n as u64).min(set_size.saturating_mul(2))
 }
 
 pub fn say_found(rt: &impl Print, counters: Counters, count: u64, places: &[u32]) {
-    let retry = counters.retry;
-    let search = counters.search;
-    say_figure(rt, b"found: R ", retry.0);
-    say_figure(rt, b", S ", search.0);
-    say_figure(rt, b", steps ", count);
-    say(rt, b"\nplaces:");
-    say_places(rt, places);
-    say(rt, b"\n");
+    let RetryCounter(retry) = counters.retry;
+    let SearchCounter(search) = counters.search;
+    let _ = println!(rt; "found: R {retry}, S {search}, steps {count}");
+    let _ = print!(rt; "places:");
+    for place in places {
+        let _ = print!(rt; " {place}");
+    }
+    let _ = println!(rt);
 }
 
-fn say_not_found(rt: &impl Print, number: u64, count: u64) {
-    say_figure(rt, b"not found, steps ", count);
-    say_outcome(rt, b"", number);
+// What came of a search that found nothing, with its step count.
+fn say_not_found(rt: &impl Print, end: Search, count: u64) {
+    let _ = print!(rt; "not found, steps {count}");
+    say_outcome(rt, "", end);
 }
 
-// What came of a search that found nothing, or was refused.
-pub fn say_without_proof(rt: &impl Print, found: ProofSearch) {
-    let number = proof_search_number(found) as u64;
+// What came of a search: what was found, if anything. Of anything else it is said what it is.
+pub fn unless_without_proof(
+    rt: &impl Print,
+    found: Result<Search, Refusal>,
+) -> Option<(Counters, u64)> {
     match found {
-        ProofSearch::Found(_, _, _) => {}
-        ProofSearch::NotFoundInBounds(count) => say_not_found(rt, number, count),
-        ProofSearch::NotFound(count) => say_not_found(rt, number, count),
-        ProofSearch::Refused(_) => say_outcome(rt, b"refused", number),
+        Ok(Search::Found(retry, search, count)) => Some((Counters { retry, search }, count)),
+        Ok(end @ (Search::NotFoundInBounds(count) | Search::NotFound(count))) => {
+            say_not_found(rt, end, count);
+            None
+        }
+        Err(k) => {
+            say_refused(rt, k);
+            None
+        }
     }
 }
 
+// A proof of whatever run it is, or of the run that was prepared, which has this digest. It is an Option, since the digest is what the user
+// gave or didn't; a closure over it would go through three functions, each with a type parameter and a `requires` for it.
 fn find(
     p: Params,
-    wanted: Wanted,
-    data: &[u8],
-    ends: &[u32],
-    marks: &[u8],
-    indexes: &[u64],
+    prepared: Option<[u8; 32]>,
+    list: Lent,
     places: &mut [u32],
-    table: &mut [u32],
-) -> ProofSearch {
-    if !wanted.prepared {
-        return centralized_telescope::prove(p, data, ends, marks, indexes, places, table);
+) -> Result<Search, Refusal> {
+    let mut table = table_room();
+    match prepared {
+        None => centralized_telescope::prove(p, list, places, &mut table),
+        Some(digest) => centralized_telescope::commit(p, digest, list, places, &mut table),
     }
-    let digest = wanted.digest;
-    centralized_telescope::commit(p, digest, data, ends, marks, indexes, places, table)
 }
 
-// Says whether two elements are the same, which the prover doesn't ask; searches, and says what came of it.
+// Searches, and says what came of it.
 fn search(
     rt: &(impl Files + Print),
     p: Params,
-    wanted: Wanted,
-    elements: &[u8],
+    prepared: Option<[u8; 32]>,
     proof: &[u8],
-    data: &[u8],
-    ends: &[u32],
-    marks: &[u8],
-    indexes: &[u64],
+    list: Lent,
 ) {
-    repeats::say_repeats(rt, elements, data, ends, marks, indexes);
     let mut places = [0u32; 1024];
-    let mut table = table_room();
-    let found = find(
-        p,
-        wanted,
-        data,
-        ends,
-        marks,
-        indexes,
-        &mut places,
-        &mut table,
-    );
-    match found {
-        ProofSearch::Found(retry, search, count) => {
-            let counters = Counters { retry, search };
-            let chain = first_numbers(&places, p.proof_size as usize);
-            say_found(rt, counters, count, chain);
-            write_and_verify::run(rt, p, proof, counters, chain, data, ends, marks, indexes);
-        }
-        _ => say_without_proof(rt, found),
+    let found = find(p, prepared, list, &mut places);
+    if let Some((counters, count)) = unless_without_proof(rt, found) {
+        let chain = first(&places, p.proof_size as usize);
+        say_found(rt, counters, count, chain);
+        write_and_verify::run(rt, p, proof, counters, chain, list);
     }
 }
 
 pub fn say_settings(rt: &impl Print, p: Params) {
-    say_figure(rt, b"settings: set size ", p.set_size);
-    say_figure(rt, b", proof size ", p.proof_size);
-    say_figure(rt, b", tries up to ", p.max_retries);
-    say_figure(rt, b", search width ", p.search_width);
-    say_figure(rt, b", step bound ", p.dfs_bound);
-    say(rt, b", X ");
-    let x = p.x;
-    say_hex(rt, x.hi);
-    say_hex(rt, x.lo);
-    say(rt, b"\n");
+    let Params {
+        set_size,
+        proof_size,
+        max_retries,
+        search_width,
+        dfs_bound,
+        x,
+    } = p;
+    let (high, low) = (x.hi, x.lo);
+    let _ = print!(rt;
+        "settings: set size {set_size}, proof size {proof_size}, tries up to {max_retries}"
+    );
+    let _ = println!(rt;
+        ", search width {search_width}, step bound {dfs_bound}, X {high:016x}{low:016x}"
+    );
 }
 
-pub fn say_task(rt: &impl Print, p: Params, elements: &[u8], n: usize) {
+fn say_task(rt: &impl Print, p: Params, elements: &[u8], n: usize) {
     say_settings(rt, p);
     say(rt, elements);
-    say_figure(rt, b": elements read ", n as u64);
-    say_figure(rt, b", kept for the search ", kept(n, p.set_size));
-    say(rt, b"\n");
+    let kept = kept(n, p.set_size);
+    let _ = println!(rt; ": elements read {n}, kept for the search {kept}");
 }
 
-// The proof's file must be new: no file is overwritten, and above all not the elements', whatever path or link leads there. It is asked
-// before the search, which may be long.
-pub fn is_taken(rt: &(impl Files + Print), proof: &[u8]) -> bool {
-    let taken = is_there(rt, proof);
-    if taken {
-        say_of_file(
-            rt,
-            proof,
-            b"is there already; a proof never overwrites a file",
-        );
-    }
-    taken
+// Reads the file of elements into the room, and says what a search over them is and whether two elements are the same, which the prover
+// doesn't ask. None where the file isn't read, which was said.
+pub fn read_task<'a>(
+    rt: &(impl Files + Print),
+    p: Params,
+    elements: &[u8],
+    room: &'a mut FullRoom,
+) -> Option<Lent<'a, 'a>> {
+    let mut read = room.list();
+    proof_files::read_elements(rt, elements, &mut read).ok()?;
+    let (list, _) = read.split();
+    say_task(rt, p, elements, list.ends.len());
+    repeats::say_repeats(rt, elements, list);
+    Some(list)
 }
 
-// Reads the file of elements, searches, and writes the proof's file.
-pub fn run(rt: &(impl Files + Print), p: Params, wanted: Wanted, elements: &[u8], proof: &[u8]) {
-    if is_taken(rt, proof) {
+// Reads the file of elements, searches, and writes the proof's file, which must be new: no file is overwritten, and above all not the
+// elements'. That is asked before the search, which may be long.
+pub fn run(
+    rt: &(impl Files + Print),
+    p: Params,
+    prepared: Option<[u8; 32]>,
+    elements: &[u8],
+    proof: &[u8],
+) {
+    if is_taken(rt, proof, "proof") {
         return;
     }
-    let mut data = proof_files::data_room();
-    let mut ends = proof_files::ends_room();
-    let mut marks = proof_files::marks_room();
-    let mut indexes = proof_files::indexes_room();
-    let list = proof_files::read_elements(
-        rt,
-        elements,
-        &mut data,
-        &mut ends,
-        &mut marks,
-        &mut indexes,
-    );
-    if !list.whole {
-        return;
+    let mut room = FullRoom::new();
+    if let Some(list) = read_task(rt, p, elements, &mut room) {
+        search(rt, p, prepared, proof, list);
     }
-    let n = list.elements;
-    let bytes = list.bytes;
-    say_task(rt, p, elements, n);
-    search(
-        rt,
-        p,
-        wanted,
-        elements,
-        proof,
-        &data[0..bytes],
-        &ends[0..n],
-        &marks[0..n],
-        &indexes[0..n],
-    );
 }

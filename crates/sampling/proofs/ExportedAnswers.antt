@@ -1,5 +1,5 @@
 -- The exported calls' answers, by the tests that they make.
-use Rattle.std.proofs.Common.{◌≡◌, ℕ, zero, suc, ◌^◌, ◌<◌, Bool, cond, List, [], ◌∷◌, length, set, sym, refl, ap, ◌∙◌, arith, eq-eqb, ne_eqb}
+use Rattle.std.proofs.Common.{◌≡◌, ℕ, suc, ◌^◌, ◌<◌, Bool, cond, List, [], ◌∷◌, length, set, sym, refl, ap, ◌∙◌, arith, eq-eqb, ne_eqb}
 use lib.Ieee.{Float}
 use Rattle.sampling.specs.core.BigEndian.{bytes_of}
 use Rattle.sampling.specs.core.Sample.{uniform, value_of, bernoulli}
@@ -27,25 +27,26 @@ module _ (h : List ℕ) (n : ℕ) (out : List ℕ) where
       unfolding exported_uniform first_number with_lent
       out_refused O = rw (ne_eqb n 0 N, eq-eqb (length h) 16 L, ne_eqb (length out) 8 O)
 
-      -- k and v: the number and the value of the draw's answer
-      pub drawn : length out ≡ 8 → (a : ℕ × ℕ) → a ≡ uniform h n → (k v : ℕ) → k ≡ a.0 → v ≡ a.1
-          → with_lent k v out ≡ exported_uniform h n out
-      unfolding exported_uniform
-      drawn O a e k v K W =
-          rw (K, W, e, ne_eqb n 0 N, eq-eqb (length h) 16 L, eq-eqb (length out) 8 O)
-          (ap (λ (j : ℕ). with_lent j (uniform h n).1 out)
-          (sym (two_passed 0 0 ((uniform h n).0 ∷ []) refl refl ∙ number_last (uniform h n).0)))
+      module _ (O : length out ≡ 8) (s : List ℕ) (S : s ≡ h) where
+        told : (k v : ℕ) → (k, v) ≡ uniform s n → with_lent k v out ≡ exported_uniform h n out
+        unfolding exported_uniform
+        told k v e =
+            let d : ◌≡◌ {A = ℕ × ℕ} (k, v) (uniform h n) = e ∙ ap (λ (l : List ℕ). uniform l n) S in
+            ap (λ (a : ℕ × ℕ). with_lent a.0 a.1 out) d
+            ∙ rw (ne_eqb n 0 N, eq-eqb (length h) 16 L, eq-eqb (length out) 8 O)
+            (ap (λ (j : ℕ). with_lent j (uniform h n).1 out)
+            (sym (two_passed 0 0 ((uniform h n).0 ∷ []) refl refl ∙ number_last (uniform h n).0)))
 
--- a value's bytes take the place of the lent ones; no other answer touches them
-pub value_written : (k v : ℕ) (out after : List ℕ) → k ≡ 0 → length out ≡ 8 → after ≡ bytes_of (length out) v → (k, after) ≡ with_lent k v out
-unfolding with_lent
-value_written zero v out after z l e = ap (λ (b : List ℕ). (0, b)) (e ∙ ap (λ (n : ℕ). bytes_of n v) l)
-value_written (suc k) v out after z l e = absurd (omega arith)
+        -- a value's bytes take the place of the lent ones; no other answer touches them
+        pub value_told : (v : ℕ) (after : List ℕ) → (0, v) ≡ uniform s n → after ≡ bytes_of (length out) v
+            → (0, after) ≡ exported_uniform h n out
+        unfolding with_lent
+        value_told v after e w =
+            ap (λ (b : List ℕ). (0, b)) (w ∙ ap (λ (n : ℕ). bytes_of n v) O) ∙ told 0 v e
 
-pub none_touched : (k v : ℕ) (out : List ℕ) → (k ≡ 0 → ⊥) → (k, out) ≡ with_lent k v out
-unfolding with_lent
-none_touched zero v out z = absurd (z refl)
-none_touched (suc k) v out z = refl
+        pub untouched : (k v : ℕ) → (suc k, v) ≡ uniform s n → (suc k, out) ≡ exported_uniform h n out
+        unfolding with_lent
+        untouched k v e = told (suc k) v e
 
 -- ---- the yes or no
 

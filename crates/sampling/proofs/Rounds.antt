@@ -28,17 +28,3 @@ one_more M w t {v} {r} {x} l e p h i = record { variables = variables; size = si
 
     constant : (n : ℕ) → t + 1 ≤ n → n < 64 → get_or (set w t x) n 0 ≡ get_or K256 n 0
     constant n g k = get_or-set_other w t n x 0 (omega arith) ∙ i.constant n (omega arith) k
-
-module _ (M : List ℕ) (t : ℕ) where
-  -- a round after n rounds
-  and_one : (n : ℕ) {v u r : State} {w y x : List ℕ} → RoundsFrom M t (t + n) v w u y → RoundsFrom M (t + n) (t + n + 1) u y r x
-      → RoundsFrom M t (t + (n + 1)) v w r x
-  and_one n f g h i = let e : t + (n + 1) ≡ t + n + 1 = omega arith in rw e (g h (f h i))
-
-  -- eight rounds, one after the other
-  pub eight : {v₀ v₁ v₂ v₃ v₄ v₅ v₆ v₇ v₈ : State} {w₀ w₁ w₂ w₃ w₄ w₅ w₆ w₇ w₈ : List ℕ}
-      → RoundsFrom M t (t + 1) v₀ w₀ v₁ w₁ → RoundsFrom M (t + 1) (t + 1 + 1) v₁ w₁ v₂ w₂
-      → RoundsFrom M (t + 2) (t + 2 + 1) v₂ w₂ v₃ w₃ → RoundsFrom M (t + 3) (t + 3 + 1) v₃ w₃ v₄ w₄
-      → RoundsFrom M (t + 4) (t + 4 + 1) v₄ w₄ v₅ w₅ → RoundsFrom M (t + 5) (t + 5 + 1) v₅ w₅ v₆ w₆
-      → RoundsFrom M (t + 6) (t + 6 + 1) v₆ w₆ v₇ w₇ → RoundsFrom M (t + 7) (t + 7 + 1) v₇ w₇ v₈ w₈ → RoundsFrom M t (t + 8) v₀ w₀ v₈ w₈
-  eight r₀ r₁ r₂ r₃ r₄ r₅ r₆ r₇ = and_one 7 (and_one 6 (and_one 5 (and_one 4 (and_one 3 (and_one 2 (and_one 1 r₀ r₁) r₂) r₃) r₄) r₅) r₆) r₇

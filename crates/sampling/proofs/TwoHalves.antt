@@ -1,6 +1,8 @@
 -- Numbers of two halves: the 16 bytes that they stand for, and their order.
 use Rattle.std.proofs.Common.{◌≡◌, ℕ, ◌+◌, ◌*◌, ◌^◌, ◌<◌, min, ltb, List, length, get_or, take, drop, ap, ◌∙◌, arith, get_or-drop}
-use Rattle.sampling.specs.laws.CommonLaws.{same_test}
+use Rattle.std.specs.Ordering.{nat_cmp, is_lt, is_some_and, partial_ordering_then}
+use Rattle.std.specs.Prelude.{Some}
+use Rattle.std.proofs.lemmas.Bool.Decides.{nat_tests}
 use Rattle.sampling.specs.core.BigEndian.{big_endian}
 use Rattle.sampling.specs.laws.BigEndianLaws.{part_read}
 
@@ -40,11 +42,8 @@ module _ (l : List ℕ) (n : length l ≡ 16) (v : ℕ) where
   pub second_read : (k : ℕ) → k ≡ 8 → v ≡ big_endian (min (length (take k (drop 8 l))) 8) (take k (drop 8 l)) → v ≡ big_endian 8 (drop 8 l)
   second_read k K e = e ∙ part_read l 8 k (omega arith) (omega arith) ∙ ap (λ (i : ℕ). big_endian i (drop 8 l)) K
 
--- ---- the order: by the low halves where the high ones are equal, and otherwise by the high ones
+-- ---- the order of the halves, as the fields of `U128` are compared, is that of the numbers
 
-module _ (a b c d : ℕ) where
-  pub by_low_halves : a ≡ b → ltb c d ≡ ltb (a * 2 ^ 64 + c) (b * 2 ^ 64 + d)
-  by_low_halves e = same_test c d (a * 2 ^ 64 + c) (b * 2 ^ 64 + d) (λ h. omega arith) (λ h. omega arith)
-
-  pub by_high_halves : (a ≡ b → ⊥) → c < 2 ^ 64 → d < 2 ^ 64 → ltb a b ≡ ltb (a * 2 ^ 64 + c) (b * 2 ^ 64 + d)
-  by_high_halves n C E = same_test a b (a * 2 ^ 64 + c) (b * 2 ^ 64 + d) (λ h. omega arith) (λ h. omega arith)
+pub by_halves : (a b c d : ℕ) → c < 2 ^ 64 → d < 2 ^ 64
+    → is_some_and is_lt (partial_ordering_then (Some (nat_cmp a b)) (Some (nat_cmp c d))) ≡ ltb (a * 2 ^ 64 + c) (b * 2 ^ 64 + d)
+by_halves a b c d C E = grind (arith, nat_tests)

@@ -1,16 +1,11 @@
 -- Bytes that are written: a number's from the last back, a string's into an array, words' one after the other.
 use Rattle.std.proofs.Common.{◌≡◌, ℕ, zero, suc, ◌+◌, ◌-◌, ◌*◌, ◌/◌, ◌%◌, ◌<◌, ◌≤◌, List, [], ◌∷◌, ◌++◌, length, get_or, take, drop, set, sym, ap, ◌∙◌, subst, append_assoc, append-nil, le_of_suc-le-suc, not-suc-le-zero, add-one, arith, length-append, length-drop, length-take, length-take-le, drop-drop, take_at, drop_at}
-use lib.Seq.{drop-length, set_split, sets, sets-eq}
+use lib.Seq.{set_split, sets, sets-eq}
 use Rattle.sampling.specs.core.BigEndian.{bytes_of}
 use Rattle.sampling.specs.laws.BigEndianLaws.{length_bytes_of}
 use Rattle.sampling.specs.core.Fips180.{word_bytes}
 
 -- ---- a number
-
--- nothing is written yet
-pub none_written : (k v : ℕ) (out : List ℕ) → length out ≡ k → bytes_of k v ++ drop k out ≡ bytes_of k v
-none_written k v out L =
-    ap (λ (l : List ℕ). bytes_of k v ++ l) (ap (λ (i : ℕ). drop i out) (sym L) ∙ drop-length out) ∙ append-nil (bytes_of k v)
 
 -- one more byte is written, the lowest of what is left of the number
 before_last : (k r : ℕ) (out w : List ℕ) → k < length out → bytes_of (suc k) r ++ drop (suc k) out ≡ w

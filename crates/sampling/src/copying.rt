@@ -7,9 +7,7 @@ pub fn copy_over(bytes: &[u8], out: &mut [u8])
     requires { length bytes.now ≡ length out.old }
     ensures { out.new ≡ bytes.now }
 {
-    let mut i = 0;
-    while i < bytes.len() {
+    for i in 0..bytes.len() {
         out[i] = bytes[i];
-        i += 1;
     }
 }

@@ -1,13 +1,13 @@
-// Sampler and converter as C and Rust call them: h, the draw's bytes and X's two words are lent slices, and the answer is a number.
+// Sampler and converter as C and Rust call them: h, the draw's bytes and X's two words are lent slices, and the answer is a number. 7 and 3
+// stand here as numbers, and not by the `From` of their errors: tried, and the C of dist/ was longer by a function and a struct for each.
 
 ghost use Rattle.std.specs.Prelude.{◌≡◌, length};
-ghost use Rattle.sampling.specs.core.Sample.{uniform_by};
 ghost use Rattle.sampling.specs.core.Exports.{exported_uniform, exported_bernoulli};
 ghost use Rattle.sampling.specs.later.Threshold.{exported_threshold};
 
 use crate::big_endian;
 use crate::copying::copy_over;
-use crate::sample::{Draw, Threshold, U128, sample_bernoulli, sample_uniform, threshold_of};
+use crate::sample::{U128, sample_bernoulli, sample_uniform, threshold_of};
 
 // The 16 bytes lent, by value.
 fn seed_of(h: &[u8]) -> [u8; 16]
@@ -19,28 +19,6 @@ fn seed_of(h: &[u8]) -> [u8; 16]
     seed
 }
 
-// The number of a draw's answer.
-fn draw_number(d: Draw) -> u32
-    ensures { result ≡ (uniform_by d).0 }
-{
-    match d {
-        Draw::Value(_) => 0,
-        Draw::NoDraw => 1,
-        Draw::Refused => 7,
-    }
-}
-
-// The value drawn, or 0.
-fn draw_value(d: Draw) -> u64
-    ensures { result ≡ (uniform_by d).1 }
-{
-    match d {
-        Draw::Value(v) => v,
-        Draw::NoDraw => 0,
-        Draw::Refused => 0,
-    }
-}
-
 // 0 with the value drawn in the 8 bytes of `out`, the highest first; otherwise `out` is untouched and the answer is
 // 1: no draw; 7: n is 0; 8: h's length isn't 16, or `out`'s isn't 8.
 pub fn alba_sample_uniform(h: &[u8], n: u64, out: &mut [u8]) -> u32
@@ -49,18 +27,17 @@ pub fn alba_sample_uniform(h: &[u8], n: u64, out: &mut [u8]) -> u32
     if n == 0 {
         return 7;
     }
-    if h.len() != 16 {
+    if h.len() != 16 || out.len() != 8 {
         return 8;
     }
-    if out.len() != 8 {
-        return 8;
+    match sample_uniform(seed_of(h), n) {
+        Ok(Some(v)) => {
+            big_endian::write_number(v, out);
+            0
+        }
+        Ok(None) => 1,
+        Err(_) => 7,
     }
-    let d = sample_uniform(seed_of(h), n);
-    let number = draw_number(d);
-    if number == 0 {
-        big_endian::write_number(draw_value(d), out);
-    }
-    number
 }
 
 // 1: yes; 0: no; 8: h's length isn't 16. X is passed as its high word, then its low.
@@ -88,8 +65,7 @@ pub fn alba_threshold(q: f64, out: &mut [u64]) -> u32
     if out.len() != 2 {
         return 8;
     }
-    let t = threshold_of(q);
-    let Threshold::At(x) = t else {
+    let Ok(x) = threshold_of(q) else {
         return 3;
     };
     out[0] = x.hi;

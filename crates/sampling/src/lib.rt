@@ -11,5 +11,7 @@ mod theorems;
 
 pub use big_endian::{eight_bytes, number_of, write_number};
 pub use exports::{alba_sample_bernoulli, alba_sample_uniform, alba_threshold};
-pub use sample::{Draw, Threshold, U128, sample_bernoulli, sample_uniform, threshold_of};
+pub use sample::{
+    EmptyRange, NotProbability, U128, sample_bernoulli, sample_uniform, threshold_of,
+};
 pub use theorems::hasher_hashes;

@@ -1,32 +1,43 @@
 // The sampler: a number below n, and a yes or no, from 16 bytes of a hash. Two u64 stand for a u128.
 
-ghost use Rattle.std.specs.Prelude.{◌≡◌, ◌+◌, ◌-◌, ◌*◌, ◌%◌, ◌^◌, ◌<◌, ◌≤◌, true, false};
+ghost use Rattle.std.specs.Prelude.{◌≡◌, ◌+◌, ◌-◌, ◌*◌, ◌%◌, ◌^◌, ◌<◌, ◌≤◌, true, false, Err};
 ghost use Rattle.sampling.specs.core.BigEndian.{big_endian};
-ghost use Rattle.sampling.specs.core.Sample.{is_power, mod_not_power, uniform, uniform_by, bernoulli, value_of};
+ghost use Rattle.sampling.specs.core.Sample.{is_power, mod_not_power, draw_by, uniform, uniform_by, bernoulli, value_of};
 ghost use Rattle.sampling.specs.later.Threshold.{outside_unit, threshold, converted, converted_by};
 
 use crate::big_endian::number_of;
 
-// A number of 128 bits: hi * 2^64 + lo.
-#[derive(Clone, Copy)]
+// A number of 128 bits: hi * 2^64 + lo. The order of the fields is that of the numbers.
+#[derive(Clone, Copy, PartialEq, Eq, PartialOrd, Ord)]
 pub struct U128 {
     pub hi: u64,
     pub lo: u64,
 }
 
-// What a uniform draw answers.
-#[derive(Clone, Copy)]
-pub enum Draw {
-    Value(u64),
-    NoDraw,
-    Refused,
+// No number is below 0: there is none to draw.
+#[derive(Clone, Copy, PartialEq, Eq, Debug)]
+pub struct EmptyRange;
+
+// Its number.
+impl From<EmptyRange> for u32 {
+    ghost from_gives = { λ refused number. number ≡ (uniform_by (Err refused)).0 };
+
+    fn from(_: EmptyRange) -> u32 {
+        7
+    }
 }
 
-// What a probability comes to: a number of 128 bits that the hash must stay below.
-#[derive(Clone, Copy)]
-pub enum Threshold {
-    At(U128),
-    Refused,
+// A q that is no number from 0 to 1.
+#[derive(Clone, Copy, PartialEq, Eq, Debug)]
+pub struct NotProbability;
+
+// Its number.
+impl From<NotProbability> for u32 {
+    ghost from_gives = { λ refused number. number ≡ (converted_by (Err refused)).0 };
+
+    fn from(_: NotProbability) -> u32 {
+        3
+    }
 }
 
 // The 16 bytes as one number: its high half is that of the first 8.
@@ -38,7 +49,7 @@ fn u128_of(h: [u8; 16]) -> U128
     U128 { hi, lo }
 }
 
-// Whether n is a power of two: whether its highest bit is all of it.
+// Whether n is a power of two: whether its highest bit is all of it. Written out: the C of dist/ has no function of the library for it.
 fn is_power_of_two(n: u64) -> bool
     requires { 0 < n }
     ensures { result ≡ is_power 64 n }
@@ -72,10 +83,8 @@ fn mod_by_doubling(i: U128, n: u64) -> u64
     ensures { result ≡ value_of i % n }
 {
     let mut high = i.hi % n;
-    let mut k: u64 = 0;
-    while k < 64 {
+    for _k in 0..64_u32 {
         high = add_mod(high, high, n);
-        k += 1;
     }
     add_mod(high, i.lo % n, n)
 }
@@ -103,9 +112,9 @@ fn mod_u128(i: U128, n: u64) -> u64
 
 // i modulo n, unless i is D * n or more. With m the remainder of 2^128 - 1, D * n is 2^128 - 1 - m: only an i
 // whose high half is full, and whose low half is within m of full, comes to it.
-fn mod_not_power_of_2(i: U128, n: u64) -> Draw
+fn mod_not_power_of_2(i: U128, n: u64) -> Option<u64>
     requires { 0 < n }
-    ensures { uniform_by result ≡ mod_not_power (value_of i) n }
+    ensures { draw_by result ≡ mod_not_power (value_of i) n }
 {
     if i.hi == 0xffff_ffff_ffff_ffff {
         let m = mod_u128(
@@ -116,37 +125,31 @@ fn mod_not_power_of_2(i: U128, n: u64) -> Draw
             n,
         );
         if 0xffff_ffff_ffff_ffff - i.lo <= m {
-            return Draw::NoDraw;
+            return None;
         }
     }
-    Draw::Value(mod_u128(i, n))
+    Some(mod_u128(i, n))
 }
 
-// A number below n, or no draw. Refused: n is 0.
-pub fn sample_uniform(h: [u8; 16], n: u64) -> Draw
+// A number below n, or no draw.
+pub fn sample_uniform(h: [u8; 16], n: u64) -> Result<Option<u64>, EmptyRange>
     ensures { uniform_by result ≡ uniform h n }
 {
     if n == 0 {
-        return Draw::Refused;
+        return Err(EmptyRange);
     }
     let i = u128_of(h);
     if is_power_of_two(n) {
-        return Draw::Value(mod_power_of_2(i.hi, n));
+        return Ok(Some(mod_power_of_2(i.hi, n)));
     }
-    mod_not_power_of_2(i, n)
+    Ok(mod_not_power_of_2(i, n))
 }
 
 // Whether q is no probability: no number from 0 to 1. -0.0 counts as 0.
 fn is_outside_unit(q: f64) -> bool
     ensures { result ≡ outside_unit q }
 {
-    if q != q {
-        return true;
-    }
-    if q < 0.0 {
-        return true;
-    }
-    q > 1.0
+    q.is_nan() || q < 0.0 || q > 1.0
 }
 
 // X of q, exactly: floor(q * 2^128), at most 2^128 - 1. q is digits * 2^(exponent - 1075), so q * 2^128 is digits * 2^(exponent - 947),
@@ -186,23 +189,19 @@ fn unit_threshold(q: f64) -> U128
     }
 }
 
-// The converter: X of the probability q. Refused: q is no number from 0 to 1.
-pub fn threshold_of(q: f64) -> Threshold
+// The converter: X of the probability q, a number of 128 bits that a hash must stay below.
+pub fn threshold_of(q: f64) -> Result<U128, NotProbability>
     ensures { converted_by result ≡ converted q }
 {
     if is_outside_unit(q) {
-        return Threshold::Refused;
+        return Err(NotProbability);
     }
-    Threshold::At(unit_threshold(q))
+    Ok(unit_threshold(q))
 }
 
 // Yes where the 16 bytes, as one number, are below X. Every X is lawful.
 pub fn sample_bernoulli(h: [u8; 16], x: U128) -> bool
     ensures { result ≡ bernoulli h (value_of x) }
 {
-    let i = u128_of(h);
-    if i.hi == x.hi {
-        return i.lo < x.lo;
-    }
-    i.hi < x.hi
+    u128_of(h) < x
 }

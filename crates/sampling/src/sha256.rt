@@ -1,11 +1,12 @@
 // SHA-256 of FIPS 180-4, over byte strings that are absorbed one after the other.
-ghost use Rattle.std.specs.Prelude.{◌≡◌, ℕ, ◌+◌, ◌-◌, ◌*◌, ◌/◌, ◌%◌, ◌^◌, ◌<◌, ◌≤◌, List, ◌++◌, length, take, slice_index, slice_set};
+ghost use Rattle.std.specs.Prelude.{◌≡◌, ℕ, ◌+◌, ◌-◌, ◌*◌, ◌/◌, ◌%◌, ◌^◌, ◌<◌, ◌≤◌, true, false, List, Err, ◌++◌, length, take, slice_index, slice_set};
 ghost use Rattle.std.proofs.lemmas.List.Edits.{sets};
 ghost use Rattle.sampling.specs.core.BigEndian.{bytes_of};
+ghost use Rattle.sampling.specs.declared.sha256.State.{State};
 ghost use Rattle.sampling.specs.core.Fips180.{◌⊞◌, ROTR, Ch, Maj, Σ₀, Σ₁, σ₀, σ₁, W, next_w, one_round, rounds, plus, compressed, word};
-ghost use Rattle.sampling.specs.core.Fips180.{block, H₀, padding, padded, digest_of};
+ghost use Rattle.sampling.specs.core.Fips180.{block, H₀, padding, padded, digest_of, sha256};
 ghost use Rattle.sampling.specs.core.Hash.{max_hashed, hashed, hashed_by};
-ghost use Rattle.sampling.specs.inner.HashInner.{RoundsFrom};
+ghost use Rattle.sampling.specs.inner.HashInner.{AfterRounds, RoundsFrom};
 ghost use Rattle.sampling.specs.inner.LastBlocksInner.{in_one_piece, in_two_blocks, hash_value_from};
 ghost use Rattle.sampling.specs.later.Hasher.{new_hasher, absorb_bytes, too_long, absorbed, finished};
 
@@ -37,11 +38,17 @@ pub struct Hasher {
     pub len: usize,
 }
 
-// 0 and the digest, or 9 and zeros.
-#[derive(Clone, Copy)]
-pub struct Hashed {
-    pub number: u32,
-    pub digest: [u8; 32],
+// What was to be hashed is over MAX_HASHED bytes.
+#[derive(Clone, Copy, PartialEq, Eq, Debug)]
+pub struct TooLong;
+
+// Its number.
+impl From<TooLong> for u32 {
+    ghost from_gives = { λ refused number. number ≡ (hashed_by (Err refused)).0 };
+
+    fn from(_: TooLong) -> u32 {
+        9
+    }
 }
 
 // ---- Functions on words (4.1.2): Ch, Maj, and Σ and σ as big and small sigma
@@ -53,7 +60,7 @@ fn add(x: u32, y: u32) -> u32
     std::num::wrapping_add_u32(x, y)
 }
 
-// ROTR^n(x) (3.2).
+// ROTR^n(x) (3.2), as the standard writes it: the C of dist/ has no function of the library for it.
 fn rotr(x: u32, n: u32) -> u32
     requires { (0 < n) × (n < 32) }
     ensures { result ≡ ROTR n x }
@@ -137,53 +144,6 @@ fn one_round(v: State, k: u32, w: u32) -> State
     }
 }
 
-// The round t with the word x, which takes the place of the constant: w has the schedule's words before t, the constants from t on.
-fn step(v: State, w: &mut [u32; 64], t: usize, x: u32) -> State
-    requires { t < 64 }
-    ensures { (M : List ℕ) → x ≡ slice_index (W M 64) t → RoundsFrom M t (t + 1) v w.old result w.new }
-{
-    let k = w[t];
-    w[t] = x;
-    one_round(v, k, x)
-}
-
-// A round whose word is the block's, which starts at o.
-fn first_step(v: State, w: &mut [u32; 64], s: &[u8], o: usize, t: usize) -> State
-    requires { (t < 16) × (o + 64 ≤ length s.now) }
-    ensures { RoundsFrom (block s.now o) t (t + 1) v w.old result w.new }
-{
-    step(v, w, t, word_at(s, o + 4 * t))
-}
-
-// Eight rounds in a row, after which each variable stands in its own place again: the compiler moves none.
-fn first_steps(v: State, w: &mut [u32; 64], s: &[u8], o: usize, t: usize) -> State
-    requires { (t + 8 ≤ 16) × (o + 64 ≤ length s.now) }
-    ensures { RoundsFrom (block s.now o) t (t + 8) v w.old result w.new }
-{
-    let v1 = first_step(v, w, s, o, t);
-    let v2 = first_step(v1, w, s, o, t + 1);
-    let v3 = first_step(v2, w, s, o, t + 2);
-    let v4 = first_step(v3, w, s, o, t + 3);
-    let v5 = first_step(v4, w, s, o, t + 4);
-    let v6 = first_step(v5, w, s, o, t + 5);
-    let v7 = first_step(v6, w, s, o, t + 6);
-    first_step(v7, w, s, o, t + 7)
-}
-
-// The rounds before 16.
-fn first_rounds(v: State, w: &mut [u32; 64], s: &[u8], o: usize) -> State
-    requires { o + 64 ≤ length s.now }
-    ensures { RoundsFrom (block s.now o) 0 16 v w.old result w.new }
-{
-    let mut u = v;
-    let mut t = 0;
-    while t < 16 {
-        u = first_steps(u, w, s, o, t);
-        t += 8;
-    }
-    u
-}
-
 // The word at t from the sixteen before it.
 fn next_word(w: &[u32; 64], t: usize) -> u32
     requires { (16 ≤ t) × (t < 64) }
@@ -195,38 +155,58 @@ fn next_word(w: &[u32; 64], t: usize) -> u32
     )
 }
 
-// A round whose word is made here, not ahead, so that its work fills the round's waits.
-fn later_step(v: State, w: &mut [u32; 64], t: usize) -> State
-    requires { (16 ≤ t) × (t < 64) }
-    ensures { (M : List ℕ) → RoundsFrom M t (t + 1) v w.old result w.new }
+// The schedule's word at t: before 16 the block's, which starts at o, and then one that is MADE here, not ahead, so that its work fills
+// the round's waits.
+fn word_of<const MADE: bool>(w: &[u32; 64], s: &[u8], o: usize, t: usize) -> u32
+    requires { (t < 64) × (MADE ≡ true → 16 ≤ t) × (MADE ≡ false → t < 16) × (o + 64 ≤ length s.now) }
+    ensures { (h v : State) → AfterRounds h (block s.now o) t v w.now → result ≡ slice_index (W (block s.now o) 64) t }
 {
-    step(v, w, t, next_word(w, t))
+    if MADE {
+        next_word(w, t)
+    } else {
+        word_at(s, o + 4 * t)
+    }
 }
 
-// Eight rounds in a row, as above.
-fn later_steps(v: State, w: &mut [u32; 64], t: usize) -> State
-    requires { (16 ≤ t) × (t + 8 ≤ 64) }
-    ensures { (M : List ℕ) → RoundsFrom M t (t + 8) v w.old result w.new }
+// The round t: its word takes the place of its constant. w has the schedule's words before t, the constants from t on.
+fn step<const MADE: bool>(v: State, w: &mut [u32; 64], s: &[u8], o: usize, t: usize) -> State
+    requires { (t < 64) × (MADE ≡ true → 16 ≤ t) × (MADE ≡ false → t < 16) × (o + 64 ≤ length s.now) }
+    ensures { RoundsFrom (block s.now o) t (t + 1) v w.old result w.new }
 {
-    let v1 = later_step(v, w, t);
-    let v2 = later_step(v1, w, t + 1);
-    let v3 = later_step(v2, w, t + 2);
-    let v4 = later_step(v3, w, t + 3);
-    let v5 = later_step(v4, w, t + 4);
-    let v6 = later_step(v5, w, t + 5);
-    let v7 = later_step(v6, w, t + 6);
-    later_step(v7, w, t + 7)
+    let x = word_of::<MADE>(w, s, o, t);
+    let k = w[t];
+    w[t] = x;
+    one_round(v, k, x)
 }
 
-// The rounds from 16 on.
-fn later_rounds(v: State, w: &mut [u32; 64]) -> State
-    ensures { (M : List ℕ) → RoundsFrom M 16 64 v w.old result w.new }
+// Eight rounds in a row, which the compiler unrolls: each variable then stands in its own place again, and it moves none. Rounds taken one by
+// one are 29 % more instructions.
+fn eight_steps<const MADE: bool>(v: State, w: &mut [u32; 64], s: &[u8], o: usize, t: usize) -> State
+    requires { (t + 8 ≤ 64) × (MADE ≡ true → 16 ≤ t) × (MADE ≡ false → t + 8 ≤ 16) × (o + 64 ≤ length s.now) }
+    ensures { RoundsFrom (block s.now o) t (t + 8) v w.old result w.new }
 {
     let mut u = v;
-    let mut t = 16;
-    while t < 64 {
-        u = later_steps(u, w, t);
-        t += 8;
+    for i in 0..8 {
+        u = step::<MADE>(u, w, s, o, t + i);
+    }
+    u
+}
+
+// The rounds from `from` on, so many times eight.
+fn rounds_from<const MADE: bool>(
+    v: State,
+    w: &mut [u32; 64],
+    s: &[u8],
+    o: usize,
+    from: usize,
+    eights: usize,
+) -> State
+    requires { (from + 8 * eights ≤ 64) × (MADE ≡ true → 16 ≤ from) × (MADE ≡ false → from + 8 * eights ≤ 16) × (o + 64 ≤ length s.now) }
+    ensures { RoundsFrom (block s.now o) from (from + 8 * eights) v w.old result w.new }
+{
+    let mut u = v;
+    for k in 0..eights {
+        u = eight_steps::<MADE>(u, w, s, o, from + 8 * k);
     }
     u
 }
@@ -238,31 +218,8 @@ fn all_rounds(h: State, s: &[u8], o: usize) -> State
     ensures { result ≡ rounds h (W (block s.now o) 64) 64 }
 {
     let mut w = K256;
-    let v = first_rounds(h, &mut w, s, o);
-    later_rounds(v, &mut w)
-}
-
-fn sum(v: State, s: State) -> State
-    ensures { result ≡ plus v s }
-{
-    State {
-        a: add(v.a, s.a),
-        b: add(v.b, s.b),
-        c: add(v.c, s.c),
-        d: add(v.d, s.d),
-        e: add(v.e, s.e),
-        f: add(v.f, s.f),
-        g: add(v.g, s.g),
-        h: add(v.h, s.h),
-    }
-}
-
-// The hash value after the block at o, read in place.
-fn compress(h: State, s: &[u8], o: usize) -> State
-    requires { o + 64 ≤ length s.now }
-    ensures { result ≡ compressed h (block s.now o) }
-{
-    sum(all_rounds(h, s, o), h)
+    let v = rounds_from::<false>(h, &mut w, s, o, 0, 2);
+    rounds_from::<true>(v, &mut w, s, o, 16, 6)
 }
 
 // ---- Bytes and words (3.1)
@@ -282,113 +239,62 @@ fn wide(x: u32) -> u64
     x as u64
 }
 
-// The eight words in bytes, one after the other.
-fn digest_of(s: State) -> [u8; 32]
-    ensures { result ≡ digest_of s }
-{
-    let words = [s.a, s.b, s.c, s.d, s.e, s.f, s.g, s.h];
-    let mut d = [0u8; 32];
-    let mut n = 0;
-    while n < 8 {
-        let at = 4 * n;
-        let end = at + 4;
-        big_endian::write_number(wide(words[n]), &mut d[at..end]);
-        n += 1;
-    }
-    d
-}
+// ---- The hash value
 
-// ---- Absorbing
+impl State {
+    // The initial hash value (5.3.3).
+    fn initial() -> State
+        ensures { result ≡ H₀ }
+    {
+        State {
+            a: 0x6a09e667,
+            b: 0xbb67ae85,
+            c: 0x3c6ef372,
+            d: 0xa54ff53a,
+            e: 0x510e527f,
+            f: 0x9b05688c,
+            g: 0x1f83d9ab,
+            h: 0x5be0cd19,
+        }
+    }
 
-// A block with s in its bytes from `at` on.
-fn with_bytes(block: [u8; 64], at: usize, s: &[u8]) -> [u8; 64]
-    requires { at + length s.now ≤ 64 }
-    ensures { result ≡ sets block at s.now }
-{
-    let mut out = block;
-    copy_over(s, &mut out[at..at + s.len()]);
-    out
-}
+    // Step 4 (6.2.2): the working variables and the hash value, word by word.
+    fn plus(self, s: State) -> State
+        ensures { result ≡ plus self s }
+    {
+        State {
+            a: add(self.a, s.a),
+            b: add(self.b, s.b),
+            c: add(self.c, s.c),
+            d: add(self.d, s.d),
+            e: add(self.e, s.e),
+            f: add(self.f, s.f),
+            g: add(self.g, s.g),
+            h: add(self.h, s.h),
+        }
+    }
 
-// s, where it ends within the block that is being filled.
-fn absorb_part(h: Hasher, s: &[u8]) -> Hasher
-    requires { (h.len % 64 + length s.now < 64) × (h.len + length s.now < 2 ^ 62) }
-    ensures { result ≡ absorb_bytes h s.now }
-{
-    let state = h.state;
-    let len = h.len;
-    let old = h.block;
-    let block = with_bytes(old, len % 64, s);
-    Hasher {
-        state,
-        block,
-        len: len + s.len(),
+    // The hash value after the block at o, read in place.
+    fn compress(self, s: &[u8], o: usize) -> State
+        requires { o + 64 ≤ length s.now }
+        ensures { result ≡ compressed self (block s.now o) }
+    {
+        all_rounds(self, s, o).plus(self)
     }
-}
 
-// s, where it fills that block to its end. The next block is zeros, so that equal bytes absorbed leave equal hashers.
-fn absorb_end(h: Hasher, s: &[u8]) -> Hasher
-    requires { (h.len % 64 + length s.now ≡ 64) × (h.len + length s.now < 2 ^ 62) }
-    ensures { result ≡ absorb_bytes h s.now }
-{
-    let state = h.state;
-    let len = h.len;
-    let old = h.block;
-    let full = with_bytes(old, len % 64, s);
-    let next = compress(state, &full, 0);
-    let block = [0u8; 64];
-    Hasher {
-        state: next,
-        block,
-        len: len + s.len(),
+    // The eight words in bytes, one after the other.
+    fn digest(self) -> [u8; 32]
+        ensures { result ≡ digest_of self }
+    {
+        let words = [
+            self.a, self.b, self.c, self.d, self.e, self.f, self.g, self.h,
+        ];
+        let mut d = [0u8; 32];
+        for (n, word) in words.iter().enumerate() {
+            big_endian::write_number(wide(*word), &mut d[4 * n..4 * n + 4]);
+        }
+        d
     }
-}
-
-// s, where it is whole blocks, one at least, and none is being filled: each is read in place.
-fn absorb_blocks(h: Hasher, s: &[u8]) -> Hasher
-    requires { (h.len % 64 ≡ 0) × (length s.now % 64 ≡ 0) × (0 < length s.now) × (h.len + length s.now < 2 ^ 62) }
-    ensures { result ≡ absorb_bytes h s.now }
-{
-    let mut state = h.state;
-    let len = h.len;
-    let mut o = 0;
-    while o < s.len() {
-        state = compress(state, s, o);
-        o += 64;
-    }
-    Hasher {
-        state,
-        block: [0u8; 64],
-        len: len + s.len(),
-    }
-}
-
-// s, where no block is being filled.
-fn absorb_aligned(h: Hasher, s: &[u8]) -> Hasher
-    requires { (h.len % 64 ≡ 0) × (h.len + length s.now < 2 ^ 62) }
-    ensures { result ≡ absorb_bytes h s.now }
-{
-    if s.len() < 64 {
-        return absorb_part(h, s);
-    }
-    let n = s.len() / 64 * 64;
-    absorb_part(absorb_blocks(h, &s[..n]), &s[n..])
-}
-
-// s, whatever it holds.
-fn absorb_all(h: Hasher, s: &[u8]) -> Hasher
-    requires { h.len + length s.now < 2 ^ 62 }
-    ensures { result ≡ absorb_bytes h s.now }
-{
-    let filled = h.len % 64;
-    if filled == 0 {
-        return absorb_aligned(h, s);
-    }
-    let left = 64 - filled;
-    if s.len() < left {
-        return absorb_part(h, s);
-    }
-    absorb_aligned(absorb_end(h, &s[..left]), &s[left..])
 }
 
 // ---- The end of a message
@@ -405,14 +311,14 @@ fn length_at(filled: usize) -> usize
     56
 }
 
-// Two blocks with s in their bytes from `at` on. By value: the compiler then sees that s doesn't overlap them, and the copy is a
-// memcpy.
-fn with_string(m: [u8; 128], at: usize, s: &[u8]) -> [u8; 128]
-    requires { at + length s.now ≤ 128 }
-    ensures { result ≡ sets m at s.now }
+// Blocks with s in their bytes from `at` on. By value: the compiler then sees that s doesn't overlap them, and the copy is a memcpy.
+fn with_bytes<const N: usize>(blocks: [u8; N], at: usize, s: &[u8]) -> [u8; N]
+    requires { at + length s.now ≤ N }
+    ensures { result ≡ sets blocks.entry at s.now }
 {
-    let mut out = m;
-    copy_over(s, &mut out[at..at + s.len()]);
+    let mut out = blocks;
+    let all = &mut out[..];
+    copy_over(s, &mut all[at..at + s.len()]);
     out
 }
 
@@ -424,7 +330,7 @@ fn pad(m: [u8; 128], filled: usize, len: usize) -> [u8; 128]
     let mut out = m;
     out[filled] = 0x80;
     let bits = big_endian::eight_bytes(8 * (len as u64));
-    with_string(out, length_at(filled), &bits)
+    with_bytes(out, length_at(filled), &bits)
 }
 
 // The first `filled` bytes of a block, the last of a message of len bytes, padded. What the block holds behind them isn't read:
@@ -433,7 +339,7 @@ fn tail_of(block: [u8; 64], filled: usize, len: usize) -> [u8; 128]
     requires { (filled ≡ len % 64) × (len ≤ max_hashed) }
     ensures { result ≡ in_two_blocks (take filled block ++ padding len) }
 {
-    pad(with_string([0u8; 128], 0, &block[..filled]), filled, len)
+    pad(with_bytes([0u8; 128], 0, &block[..filled]), filled, len)
 }
 
 // Four strings joined, padded.
@@ -447,25 +353,22 @@ fn joined(a: &[u8], b: &[u8], c: &[u8], d: &[u8]) -> [u8; 128]
     let n = k + d.len();
     // The second string goes first: where the first does, the compiler zeroes what is behind it alone, and so calls `memset`, which a
     // loader needn't have.
-    let one = with_string([0u8; 128], i, b);
-    let two = with_string(one, 0, a);
-    let three = with_string(two, j, c);
-    pad(with_string(three, k, d), n, n)
+    let one = with_bytes([0u8; 128], i, b);
+    let two = with_bytes(one, 0, a);
+    let three = with_bytes(two, j, c);
+    pad(with_bytes(three, k, d), n, n)
 }
 
 // The digest after the last `filled` bytes of a message, padded: one block, or two.
-fn last_blocks(h: State, m: &[u8; 128], filled: usize) -> Hashed
+fn last_blocks(h: State, m: &[u8; 128], filled: usize) -> [u8; 32]
     requires { filled ≤ 119 }
-    ensures { hashed_by result ≡ (0, digest_of (hash_value_from h m.now ((filled + 72) / 64))) }
+    ensures { result ≡ digest_of (hash_value_from h m.now ((filled + 72) / 64)) }
 {
-    let mut s = compress(h, m, 0);
+    let mut s = h.compress(m, 0);
     if 56 <= filled {
-        s = compress(s, m, 64);
+        s = s.compress(m, 64);
     }
-    Hashed {
-        number: 0,
-        digest: digest_of(s),
-    }
+    s.digest()
 }
 
 // Whether strings of these lengths are joined in one piece: each is shorter than a block, so that none lies whole in one of them, and
@@ -473,16 +376,7 @@ fn last_blocks(h: State, m: &[u8; 128], filled: usize) -> Hashed
 fn fits(a: usize, b: usize, c: usize, d: usize) -> bool
     ensures { result ≡ in_one_piece a b c d }
 {
-    if 64 <= a {
-        return false;
-    }
-    if 64 <= b {
-        return false;
-    }
-    if 64 <= c {
-        return false;
-    }
-    if 64 <= d {
+    if 64 <= a || 64 <= b || 64 <= c || 64 <= d {
         return false;
     }
     a + b + c + d <= 119
@@ -490,46 +384,97 @@ fn fits(a: usize, b: usize, c: usize, d: usize) -> bool
 
 // ---- The calls
 
-// The initial hash value (5.3.3).
-fn start() -> State
-    ensures { result ≡ H₀ }
-{
-    State {
-        a: 0x6a09e667,
-        b: 0xbb67ae85,
-        c: 0x3c6ef372,
-        d: 0xa54ff53a,
-        e: 0x510e527f,
-        f: 0x9b05688c,
-        g: 0x1f83d9ab,
-        h: 0x5be0cd19,
-    }
-}
-
-// A hasher past the limit. It is the same whatever was absorbed, so that two strings leave what the two joined leave.
-fn too_long() -> Hasher
-    ensures { result ≡ too_long }
-{
-    let h = Hasher::new();
-    let state = h.state;
-    let block = h.block;
-    Hasher {
-        state,
-        block,
-        len: 0x2000_0001,
-    }
-}
-
 impl Hasher {
     // Nothing absorbed.
     pub fn new() -> Hasher
         ensures { result ≡ new_hasher }
     {
         Hasher {
-            state: start(),
+            state: State::initial(),
             block: [0u8; 64],
             len: 0,
         }
+    }
+
+    // A hasher past the limit. It is the same whatever was absorbed, so that two strings leave what the two joined leave.
+    fn too_long() -> Hasher
+        ensures { result ≡ too_long }
+    {
+        Hasher {
+            len: MAX_HASHED + 1,
+            ..Hasher::new()
+        }
+    }
+
+    // s, where it ends within the block that is being filled. The next is no case of this one: as one function the two take 2.0 % more
+    // instructions over short strings, and the bar is that hashing takes no more than before (docs/BENCHMARKS.md, Instructions).
+    fn absorb_part(self, s: &[u8]) -> Hasher
+        requires { (self.len % 64 + length s.now < 64) × (self.len + length s.now < 2 ^ 62) }
+        ensures { result ≡ absorb_bytes self s.now }
+    {
+        Hasher {
+            state: self.state,
+            block: with_bytes(self.block, self.len % 64, s),
+            len: self.len + s.len(),
+        }
+    }
+
+    // s, where it fills that block to its end. The next block is zeros, so that equal bytes absorbed leave equal hashers.
+    fn absorb_end(self, s: &[u8]) -> Hasher
+        requires { (self.len % 64 + length s.now ≡ 64) × (self.len + length s.now < 2 ^ 62) }
+        ensures { result ≡ absorb_bytes self s.now }
+    {
+        let full = with_bytes(self.block, self.len % 64, s);
+        Hasher {
+            state: self.state.compress(&full, 0),
+            block: [0u8; 64],
+            len: self.len + s.len(),
+        }
+    }
+
+    // s, where it is whole blocks, one at least, and none is being filled. Each is read in place, by where it starts in s: that is how
+    // `block M o` has it.
+    fn absorb_blocks(self, s: &[u8]) -> Hasher
+        requires { (self.len % 64 ≡ 0) × (length s.now % 64 ≡ 0) × (0 < length s.now) × (self.len + length s.now < 2 ^ 62) }
+        ensures { result ≡ absorb_bytes self s.now }
+    {
+        let mut state = self.state;
+        for k in 0..s.len() / 64 {
+            state = state.compress(s, 64 * k);
+        }
+        Hasher {
+            state,
+            block: [0u8; 64],
+            len: self.len + s.len(),
+        }
+    }
+
+    // s, where no block is being filled.
+    fn absorb_aligned(self, s: &[u8]) -> Hasher
+        requires { (self.len % 64 ≡ 0) × (self.len + length s.now < 2 ^ 62) }
+        ensures { result ≡ absorb_bytes self s.now }
+    {
+        if s.len() < 64 {
+            return self.absorb_part(s);
+        }
+        let n = s.len() / 64 * 64;
+        self.absorb_blocks(&s[..n]).absorb_part(&s[n..])
+    }
+
+    // s, whatever it holds.
+    fn absorb_all(self, s: &[u8]) -> Hasher
+        requires { self.len + length s.now < 2 ^ 62 }
+        ensures { result ≡ absorb_bytes self s.now }
+    {
+        let filled = self.len % 64;
+        if filled == 0 {
+            return self.absorb_aligned(s);
+        }
+        let left = 64 - filled;
+        if s.len() < left {
+            return self.absorb_part(s);
+        }
+        self.absorb_end(&s[..left]).absorb_aligned(&s[left..])
     }
 
     // One string more.
@@ -538,45 +483,42 @@ impl Hasher {
     {
         let len = self.len;
         if MAX_HASHED < len || MAX_HASHED - len < s.len() {
-            return too_long();
+            return Hasher::too_long();
         }
-        absorb_all(self, s)
+        self.absorb_all(s)
     }
 
-    // 0 with the digest of all that was absorbed, or 9 with zeros.
-    pub fn finish(self) -> Hashed
+    // The digest of all that was absorbed.
+    pub fn finish(self) -> Result<[u8; 32], TooLong>
         ensures { hashed_by result ≡ finished self }
     {
         let len = self.len;
         if MAX_HASHED < len {
-            return Hashed {
-                number: 9,
-                digest: [0u8; 32],
-            };
+            return Err(TooLong);
         }
         let state = self.state;
         let block = self.block;
         let filled = len % 64;
         let m = tail_of(block, filled, len);
-        last_blocks(state, &m, filled)
+        Ok(last_blocks(state, &m, filled))
     }
 }
 
 // SHA-256 of four strings that make two blocks at most, joined in one piece.
-fn hash_short(a: &[u8], b: &[u8], c: &[u8], d: &[u8]) -> Hashed
+fn hash_short(a: &[u8], b: &[u8], c: &[u8], d: &[u8]) -> [u8; 32]
     requires { length a.now + length b.now + length c.now + length d.now ≤ 119 }
-    ensures { hashed_by result ≡ hashed (a.now ++ (b.now ++ (c.now ++ d.now))) }
+    ensures { result ≡ sha256 (a.now ++ (b.now ++ (c.now ++ d.now))) }
 {
     let m = joined(a, b, c, d);
-    last_blocks(start(), &m, a.len() + b.len() + c.len() + d.len())
+    last_blocks(State::initial(), &m, a.len() + b.len() + c.len() + d.len())
 }
 
-// SHA-256 of four strings joined: 0 with the digest, or 9 with zeros where they are over 2^29 bytes joined.
-pub fn sha256(a: &[u8], b: &[u8], c: &[u8], d: &[u8]) -> Hashed
+// SHA-256 of four strings joined.
+pub fn sha256(a: &[u8], b: &[u8], c: &[u8], d: &[u8]) -> Result<[u8; 32], TooLong>
     ensures { hashed_by result ≡ hashed (a.now ++ (b.now ++ (c.now ++ d.now))) }
 {
     if fits(a.len(), b.len(), c.len(), d.len()) {
-        return hash_short(a, b, c, d);
+        return Ok(hash_short(a, b, c, d));
     }
     Hasher::new()
         .absorb(a)

@@ -1,28 +1,21 @@
 -- Decimal digits, one at a time. A number only grows with the digits after it, so one that is too large stays so.
 use Prim.Native.Nat.{ℕ, suc, ◌+◌, ◌-◌, ◌*◌, ◌^◌, ◌≤◌, ◌<◌}
 use mathlib.Core.Path.{◌≡◌, refl, sym, ◌∙◌}
-use mathlib.Core.Bool.{Bool, true, false, not, cond, ◌&&◌}
+use mathlib.Core.Bool.{Bool, true, false, ◌&&◌}
 use mathlib.Core.List.{List, [], ◌∷◌}
 use mathlib.Core.Logic.{◌⊎◌, inl, inr, ⊎_elim}
 use native.Mathlib.Numerals.{add-one}
 use native.Mathlib.Omega.{arith}
-use borrow.Author.Tests.{ltb-true, ltb-false, lt-ltb, le-ltb, le-leb, lt-leb}
+use borrow.Author.Tests.{ltb-true, ltb-false, lt-ltb, le-ltb}
 use lib.Dec.{ltb}
 use lib.ListN.{length, drop, get_or, drop_of_length-le}
 use lib.Seq.{drop-cons}
+use Rattle.std.specs.Prelude.{Option, Some, None, if◌then◌else◌}
 use Rattle.text.specs.Decimal.{is_digit, value_after, all_digits, known_after, is_decimal, decimal_value}
 
 -- whether a byte is a digit that v, the number before it, leaves room for
 abbrev pub fits : ℕ → ℕ → Bool
 fits v c = is_digit c && ltb (10 * v + (c - 48)) (2 ^ 64)
-
-pub is_known : (b : Bool) → not b ≡ false → b ≡ true
-is_known true e = refl
-is_known false e = sym e
-
-pub is_unknown : (b : Bool) → not b ≡ true → b ≡ false
-is_unknown true e = sym e
-is_unknown false e = refl
 
 and_false : (b : Bool) → b && false ≡ false
 and_false true = refl
@@ -44,25 +37,6 @@ grows : (v : ℕ) (cs : List ℕ) → v ≤ value_after v cs
 unfolding value_after
 grows v [] = omega arith
 grows v (c ∷ cs) = omega (arith, grows (10 * v + (c - 48)) cs)
-
--- ---- one digit
-
-pub below : (v c : ℕ) → c < 48 → fits v c ≡ false
-below v c h = rw (lt-leb 48 c h)
-
-pub above : (v c : ℕ) → 57 < c → fits v c ≡ false
-above v c h = rw (le-leb 48 c (omega arith), lt-leb c 57 h)
-
-module _ (v c : ℕ) (low : 48 ≤ c) (high : c ≤ 57) where
-  pub over : 2 ^ 64 ≤ 10 * v + (c - 48) → fits v c ≡ false
-  over h = rw (le-leb 48 c low, le-leb c 57 high, le-ltb (10 * v + (c - 48)) (2 ^ 64) h)
-
-  pub fitting : 10 * v + (c - 48) < 2 ^ 64 → fits v c ≡ true
-  fitting h = rw (le-leb 48 c low, le-leb c 57 high, lt-ltb (10 * v + (c - 48)) (2 ^ 64) h)
-
--- the answer of one digit, from the test of it
-pub no_digit : (v c : ℕ) (k : Bool) (n : ℕ) → k ≡ false → n ≡ 0 → fits v c ≡ false → (k ≡ fits v c) × (n ≡ cond k (10 * v + (c - 48)) 0)
-no_digit v c k n a b e = (a ∙ sym e, rw (a, b))
 
 -- ---- one digit of many
 
@@ -96,35 +70,54 @@ unfolding is_decimal
 whole [] h = absurd (omega arith)
 whole (c ∷ cs) h = refl
 
-refusal : (t : List ℕ) → is_decimal t ≡ false → decimal_value t ≡ 0
-unfolding decimal_value
-refusal t e = rw e
+-- what is read of a text: the number, where it writes one
+abbrev read : List ℕ → Option ℕ
+read t = if is_decimal t then Some (decimal_value t) else None
 
-pub empty : (t : List ℕ) → length t ≡ 0 → (is_decimal t ≡ false) × (decimal_value t ≡ 0)
-unfolding is_decimal decimal_value
-empty [] h = (refl, refl)
+unread : (t : List ℕ) → is_decimal t ≡ false → None ≡ read t
+unread t e = rw e refl
+
+none_if : (b : Bool) (n : ℕ) → None ≡ (if b then Some n else None) → b ≡ false
+none_if true n e = cc
+none_if false n e = refl
+
+some_if : (b : Bool) (m n : ℕ) → Some m ≡ (if b then Some n else None) → (b ≡ true) × (m ≡ n)
+some_if true m n e = (refl, cc)
+some_if false m n e = cc
+
+pub empty : (t : List ℕ) → length t ≡ 0 → None ≡ read t
+unfolding is_decimal
+empty [] h = refl
 empty (c ∷ cs) h = absurd (omega arith)
 
+-- what one digit after v makes, where it is one and there is room
+abbrev next : ℕ → ℕ → Option ℕ
+next v c = if fits v c then Some (10 * v + (c - 48)) else None
+
 module _ (t : List ℕ) (v i : ℕ) (at : At t v i) where
-  pub refused : i < length t → fits v (get_or t i 0) ≡ false → (is_decimal t ≡ false) × (decimal_value t ≡ 0)
-  refused h e =
+  pub refused : i < length t → None ≡ next v (get_or t i 0) → None ≡ read t
+  refused h n =
+      let e : fits v (get_or t i 0) ≡ false = none_if (fits v (get_or t i 0)) (10 * v + (get_or t i 0 - 48)) n in
       let k : known_after 0 t ≡ false = sym at.known ∙ rw (drop-cons t i 0 h) (unknown_step v (get_or t i 0) (drop (suc i) t) e) in
-      let d : is_decimal t ≡ false = whole t (omega arith) ∙ k in
-      (d, refusal t d)
+      unread t (whole t (omega arith) ∙ k)
 
-  pub goes_on : i < length t → fits v (get_or t i 0) ≡ true → At t (10 * v + (get_or t i 0 - 48)) (i + 1)
+  pub goes_on : (w : ℕ) → i < length t → Some w ≡ next v (get_or t i 0) → At t w (i + 1)
   unfolding value_after
-  goes_on h e =
+  goes_on w h n =
+      let s : (fits v (get_or t i 0) ≡ true) × (w ≡ 10 * v + (get_or t i 0 - 48)) =
+      some_if (fits v (get_or t i 0)) w (10 * v + (get_or t i 0 - 48)) n in
+      rw (s.1) (
       record {
-        known = rw add-one (sym (known_step v (get_or t i 0) (drop (suc i) t) e) ∙ rw (drop-cons t i 0 h) at at.known);
+        known = rw add-one (sym (known_step v (get_or t i 0) (drop (suc i) t) s.0) ∙ rw (drop-cons t i 0 h) at at.known);
         value = rw add-one (rw (drop-cons t i 0 h) at at.value);
-        small = ltb-true (10 * v + (get_or t i 0 - 48)) (2 ^ 64) (second_true (is_digit (get_or t i 0)) _ e);
+        small = ltb-true (10 * v + (get_or t i 0 - 48)) (2 ^ 64) (second_true (is_digit (get_or t i 0)) _ s.0);
       }
+      )
 
-  pub ends : 0 < length t → length t ≤ i → (is_decimal t ≡ true) × (decimal_value t ≡ v)
+  pub ends : 0 < length t → length t ≤ i → Some v ≡ read t
   unfolding known_after all_digits value_after decimal_value
   ends h l =
       let n : drop i t ≡ [] = drop_of_length-le t l in
       let k : is_decimal t ≡ true = whole t h ∙ (sym at.known ∙ rw n (lt-ltb v (2 ^ 64) at.small)) in
       let w : value_after 0 t ≡ v = sym at.value ∙ rw n in
-      (k, rw k w)
+      rw (k, w) refl

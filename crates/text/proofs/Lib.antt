@@ -1,7 +1,4 @@
 -- The laws that the proofs of `text` share.
 mod DecimalLaws
-mod DigitLaws
 mod HexRead
-mod NanPatterns
-mod SearchLaws
 mod WordsRead

@@ -1,138 +1,102 @@
 // Bytes and numbers written in hexadecimal, two digits to the byte.
-ghost use Rattle.std.specs.Prelude.{◌≡◌, ◌≤◌, ◌<◌};
+ghost use Rattle.std.specs.Prelude.{◌≡◌, ◌≤◌, ◌<◌, ◌/◌, ◌%◌, length, MatchOption, IfSome, OnSome, if◌then◌else◌};
 ghost use Rattle.io.specs.Counts.{IsPrefixLen};
 ghost use Rattle.text.specs.Hexadecimal.{digit_value, is_sixteen, sixteen_value};
 
-use crate::least;
-use crate::number::{Number, unknown};
+use std::cmp::min;
 use std::io::Write;
 
-// Whether a text writes bytes that fit, and how many.
-#[derive(Clone, Copy)]
-pub struct Unhexed {
-    pub known: bool,
-    pub len: usize,
-}
-
-// The value of a digit, or 16 of any other byte. Capital letters are none: what the programs here read has small ones only.
-fn digit(c: u8) -> u8
-    ensures { (result ≡ digit_value c) × (result ≤ 16) }
+// The value of a digit. Capital letters are none: what the programs here read has small ones only.
+#[tactic(auto, unfolding(crate::specs::Hexadecimal::digit_value))]
+fn digit(c: u8) -> Option<u8>
+    ensures { MatchOption result (15 < digit_value c) (λ d. (d ≡ digit_value c) × (d ≤ 15)) }
 {
     match c {
-        b'0'..=b'9' => c - 48,
-        b'a'..=b'f' => c - 87,
-        _ => 16,
+        b'0'..=b'9' => Some(c - b'0'),
+        b'a'..=b'f' => Some(c - b'a' + 10),
+        _ => None,
     }
 }
 
-// The byte that two digits write, or 256 where one of them is no digit.
-fn pair(high: u8, low: u8) -> u16
-    ensures { result ≤ 256 }
+// The byte that two digits write.
+fn byte_of(high: u8, low: u8) -> Option<u8> {
+    Some(16 * digit(high)? + digit(low)?)
+}
+
+// How many bytes `text` writes, and these at the start of `out`. None: an odd number of digits, another byte among them, or more than fit.
+pub fn unhex(text: &[u8], out: &mut [u8]) -> Option<usize>
+    ensures { IfSome result (λ n. IsPrefixLen n out.new) }
 {
-    let h = digit(high);
-    let l = digit(low);
-    if 15 < h {
-        return 256;
+    let (pairs, odd) = text.as_chunks::<2>();
+    if !odd.is_empty() || out.len() < pairs.len() {
+        return None;
     }
-    if 15 < l {
-        return 256;
+    for (byte, pair) in out.iter_mut().zip(pairs) {
+        *byte = byte_of(pair[0], pair[1])?;
     }
-    16 * (h as u16) + (l as u16)
+    Some(pairs.len())
 }
 
-fn no_bytes() -> Unhexed
-    ensures { result.len ≤ 0 }
+// The N bytes that `text` writes. None: another number of digits than 2 N, or another byte among them.
+pub fn bytes<const N: usize>(text: &[u8]) -> Option<[u8; N]>
+    ensures { OnSome result (length text.now / 2 ≡ N) }
 {
-    Unhexed {
-        known: false,
-        len: 0,
+    if text.len() / 2 != N {
+        return None;
     }
+    let mut bytes = [0; N];
+    unhex(text, &mut bytes)?;
+    Some(bytes)
 }
 
-// What `text` writes, at the start of `out`. Not known: an odd number of digits, another byte among them, or more than fit.
-pub fn unhex(text: &[u8], out: &mut [u8]) -> Unhexed
-    ensures { IsPrefixLen result.len out.new }
-{
-    let len = text.len() / 2;
-    if text.len() % 2 == 1 {
-        return no_bytes();
-    }
-    if out.len() < len {
-        return no_bytes();
-    }
-    let mut i = 0;
-    while i < len {
-        let byte = pair(text[2 * i], text[2 * i + 1]);
-        if 255 < byte {
-            return no_bytes();
-        }
-        out[i] = byte as u8;
-        i += 1;
-    }
-    Unhexed { known: true, len }
-}
-
-// The number that 16 digits write. Not known: another count of digits, or another byte among them.
-pub fn sixteen_digits(text: &[u8]) -> Number
-    ensures { (result.known ≡ is_sixteen text.now) × (result.value ≡ sixteen_value text.now) }
+// The number that 16 digits write. None: another count of digits, or another byte among them. The library's parsing takes capital
+// letters and a sign too.
+pub fn sixteen_digits(text: &[u8]) -> Option<u64>
+    ensures { result ≡ (if is_sixteen text.now then Some (sixteen_value text.now) else None) }
 {
     if text.len() != 16 {
-        return unknown();
+        return None;
     }
-    let mut value: u64 = 0;
-    let mut i = 0;
-    while i < text.len() {
-        let d = digit(text[i]);
-        if 15 < d {
-            return unknown();
-        }
-        // Never so of 16 digits; with the test each step by itself is seen to fit.
-        if 0x0fff_ffff_ffff_ffff < value {
-            return unknown();
-        }
-        value = 16 * value + d as u64;
-        i += 1;
+    let mut value = 0;
+    for byte in text {
+        value = 16 * value + u64::from(digit(*byte)?);
     }
-    Number { known: true, value }
+    Some(value)
 }
 
 fn letter(value: u8) -> u8
     requires { value < 16 }
 {
-    if value < 10 { 48 + value } else { 87 + value }
+    if value < 10 {
+        b'0' + value
+    } else {
+        b'a' - 10 + value
+    }
 }
 
 // The digits of the first bytes, as many as there is room for: how many digits.
 fn digits_of(bytes: &[u8], out: &mut [u8]) -> usize
     ensures { IsPrefixLen result out.new }
 {
-    let n = least(bytes.len(), out.len() / 2);
-    let mut i = 0;
-    while i < n {
-        let byte = bytes[i];
-        out[2 * i] = letter(byte / 16);
-        out[2 * i + 1] = letter(byte % 16);
-        i += 1;
+    let n = min(bytes.len(), out.len() / 2);
+    let (pairs, _) = out.as_chunks_mut::<2>();
+    for (pair, byte) in pairs.iter_mut().zip(bytes) {
+        *pair = [letter(*byte / 16), letter(*byte % 16)];
     }
     2 * n
 }
 
 // Writes the digits of up to 2,048 bytes at once.
-fn write_some(out: &mut impl Write, bytes: &[u8]) -> bool {
+fn write_some(out: &mut impl Write, bytes: &[u8]) -> std::io::Result<()> {
     let mut digits = io::buffer();
     let n = digits_of(bytes, &mut digits);
-    out.write_all(&digits[..n]).is_ok()
+    out.write_all(&digits[..n])
 }
 
-// Writes the digits of all bytes, and answers whether they were written.
-pub fn write(out: &mut impl Write, bytes: &[u8]) -> bool {
-    let mut from = 0;
-    while 2048 < bytes.len() - from {
-        let to = from + 2048;
-        if !write_some(out, &bytes[from..to]) {
-            return false;
-        }
-        from = to;
+// Writes the digits of all bytes. Not by `{:02x}` of each: a file has no buffer, and each byte would be a call of the system.
+pub fn write(out: &mut impl Write, bytes: &[u8]) -> std::io::Result<()> {
+    for part in bytes.chunks(2048) {
+        write_some(out, part)?;
     }
-    write_some(out, &bytes[from..])
+    Ok(())
 }

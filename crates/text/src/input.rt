@@ -1,97 +1,62 @@
 // The bytes of an open file, or of standard input, in a lent buffer.
-ghost use Rattle.std.specs.Prelude.{◌≤◌, min, ◌≡◌, length, take};
+ghost use Rattle.std.specs.Prelude.{◌≤◌, min, ◌≡◌, length, take, IfOk, MatchResult};
 
-use crate::least;
 use std::io::Read;
 
-// How far a buffer is filled, and whether a read failed. If none did, a buffer that isn't full has all that was left of the input.
-#[derive(Clone, Copy)]
-pub struct Filled {
-    pub failed: bool,
+// Why a part of an input, a whole one or a line, isn't there.
+#[derive(Clone, Copy, Debug, PartialEq, Eq)]
+pub enum FetchError {
+    // there is no room for so much
+    TooLong,
+    Unreadable,
+}
+
+// A read that failed, and how far the buffer was filled before it.
+#[derive(Clone, Copy, Debug, PartialEq, Eq)]
+pub struct CutShort {
     pub len: usize,
 }
 
-// What came of reading an input whole: all of it, as the first bytes of what is lent; or more than there is room for; or neither, since a
-// read failed.
-#[derive(Clone, Copy)]
-pub struct Fetched {
-    pub whole: bool,
-    pub too_long: bool,
-    pub len: usize,
-}
-
-// One read into what is left of the buffer.
-fn read_more(file: &mut impl Read, buf: &mut [u8], len: usize) -> Filled
-    requires { len ≤ length buf.old }
-    ensures { (len ≤ result.len) × (result.len ≤ length buf.old) × (take len buf.new ≡ take len buf.old) }
-{
-    match file.read(&mut buf[len..]) {
-        Ok(n) => Filled {
-            failed: false,
-            len: len + n,
-        },
-        Err(_) => Filled { failed: true, len },
+impl From<CutShort> for FetchError {
+    fn from(_cut: CutShort) -> FetchError {
+        FetchError::Unreadable
     }
 }
 
-// Reads into the buffer, behind its first `from` bytes, until it is full, the input ends or a read fails.
-pub fn fill(file: &mut impl Read, buf: &mut [u8], from: usize) -> Filled
-    ensures buf_bound { (min from (length buf.old) ≤ result.len) × (result.len ≤ length buf.old) }
+// Reads into the buffer, behind its first `from` bytes, until it is full, the input ends or a read fails, and answers how far it is filled
+// then. Where no read failed, a buffer that isn't full has all that was left of the input.
+pub fn fill(file: &mut impl Read, buf: &mut [u8], from: usize) -> Result<usize, CutShort>
+    ensures buf_bound { MatchResult result (λ len. (min from (length buf.old) ≤ len) × (len ≤ length buf.old))
+        (λ cut. (min from (length buf.old) ≤ cut.len) × (cut.len ≤ length buf.old)) }
     ensures buf_unchanged { take from buf.new ≡ take from buf.old }
 {
-    let mut len = least(from, buf.len());
+    let mut len = from.min(buf.len());
+    // The step is what a read gives, so no range has it; std's `read_exact` doesn't say how far it came.
     while len < buf.len() {
-        let more = read_more(file, buf, len);
-        if more.failed {
-            return more;
+        let Ok(more) = file.read(&mut buf[len..]) else {
+            return Err(CutShort { len });
+        };
+        if more == 0 {
+            return Ok(len);
         }
-        let to = more.len;
-        if to == len {
-            return more;
-        }
-        len = to;
+        len += more;
     }
-    Filled { failed: false, len }
+    Ok(len)
 }
 
 // Whether the input is read to its end, and no byte follows.
 fn is_at_end(file: &mut impl Read) -> bool {
     let mut one = [0u8; 1];
-    match file.read(&mut one) {
-        Ok(n) => n == 0,
-        Err(_) => false,
-    }
+    matches!(file.read(&mut one), Ok(0))
 }
 
-// Nothing of an input that can't be read.
-pub fn none_fetched() -> Fetched
-    ensures { result.len ≤ 0 }
+// The input up to its end, as the first bytes of what is lent: how many they are.
+pub fn read_whole(file: &mut impl Read, out: &mut [u8]) -> Result<usize, FetchError>
+    ensures { IfOk result (λ len. len ≤ length out.new) }
 {
-    Fetched {
-        whole: false,
-        too_long: false,
-        len: 0,
+    let len = fill(file, out, 0)?;
+    if len == out.len() && !is_at_end(file) {
+        return Err(FetchError::TooLong);
     }
-}
-
-// The input up to its end, as far as there is room.
-pub fn read_whole(file: &mut impl Read, out: &mut [u8]) -> Fetched
-    ensures { result.len ≤ length out.new }
-{
-    let filled = fill(file, out, 0);
-    if filled.failed {
-        return none_fetched();
-    }
-    if filled.len == out.len() && !is_at_end(file) {
-        return Fetched {
-            whole: false,
-            too_long: true,
-            len: 0,
-        };
-    }
-    Fetched {
-        whole: true,
-        too_long: false,
-        len: filled.len,
-    }
+    Ok(len)
 }

@@ -1,149 +1,128 @@
-// An open file read by its lines, through a lent buffer that a line and its end fit into.
-ghost use Rattle.std.specs.Prelude.{◌≡◌, ◌≤◌, ◌<◌, length, take, drop};
+// An open file read by its lines.
+ghost use Rattle.std.specs.Prelude.{◌≡◌, ◌+◌, ◌≤◌, ◌<◌, length, take, drop, min, IfSome};
 
-use crate::scan::place_of;
-use crate::{input, least};
+use crate::input;
+use crate::input::FetchError;
 use std::io::Read;
 
-// What came of reading a line.
-#[derive(Clone, Copy)]
-pub enum Came {
-    Line,
-    End,
-    // as long as the buffer, or longer
-    TooLong,
-    Unreadable,
+// A line and its end fit into so many bytes.
+pub const LINE_ROOM: usize = 16384;
+
+// Reads a file's lines, one after the other, in a room of its own: no `BufReader`, which may fail for want of memory, and has no limit of a
+// line's length. Of the room, from `start` to `end` is the line that was read last, without its line end, and
+// from `next` to `filled` what was read of those after it.
+#[derive(Drop)]
+pub struct LineReader {
+    room: [u8; LINE_ROOM],
+    number: u64,
+    start: usize,
+    end: usize,
+    next: usize,
+    filled: usize,
+    ghost places: { (start ≤ end) × (end ≤ next) × (next ≤ filled) × (filled ≤ 16384) },
 }
 
-// Where reading stands. Of the buffer, start to end is the line, without its line end; next to filled is what was read of those after it.
-#[derive(Clone, Copy)]
-pub struct Line {
-    pub came: Came,
-    pub number: u64,
-    pub start: usize,
-    pub end: usize,
-    pub next: usize,
-    pub filled: usize,
-}
-
-// Before the first line, which has the number 1.
-pub fn none_yet() -> Line
-    ensures { (result.number ≡ 0) × (result.filled ≡ 0) }
+// Where the first line end is.
+fn line_end(bytes: &[u8]) -> Option<usize>
+    ensures { IfSome result (λ n. n < length bytes.now) }
 {
-    no_line(Came::End, 0)
+    bytes.iter().position(|byte| *byte == b'\n')
 }
 
-fn no_line(came: Came, number: u64) -> Line
-    ensures { (result.number ≡ number) × (result.start ≡ 0) × (result.end ≡ 0) × (result.next ≡ 0) × (result.filled ≡ 0) }
-{
-    Line {
-        came,
-        number,
-        start: 0,
-        end: 0,
-        next: 0,
-        filled: 0,
+impl LineReader {
+    // Before the first line, which has the number 1.
+    pub fn new() -> LineReader
+        ensures { (result.number ≡ 0) × (result.filled ≡ 0) }
+    {
+        LineReader {
+            room: [0; LINE_ROOM],
+            number: 0,
+            start: 0,
+            end: 0,
+            next: 0,
+            filled: 0,
+        }
     }
-}
 
-// The line at these places of the buffer.
-pub fn text_of(buf: &[u8], line: Line) -> &[u8]
-    ensures { result.now ≡ drop line.start (take line.end buf.now) }
-{
-    let end = least(line.end, buf.len());
-    let start = least(line.start, end);
-    &buf[start..end]
-}
+    // The line that was read last, without its line end; nothing where none was.
+    pub fn text(&self) -> &[u8]
+        ensures { result.now ≡ drop self.now.start (take self.now.end self.now.room) }
+    {
+        &self.room[self.start..self.end]
+    }
 
-// Moves the part from `from` to `to` to the front.
-fn move_to_front(buf: &mut [u8], from: usize, to: usize)
-    requires { (from ≤ to) × (to ≤ length buf.old) }
-{
-    let n = to - from;
-    let mut i = 0;
-    while i < n {
-        buf[i] = buf[from + i];
-        i += 1;
+    // Its number, or the number of the line that couldn't be read.
+    pub fn number(&self) -> u64
+        ensures { result ≡ self.now.number }
+    {
+        self.number
     }
-}
 
-// Where the part from `from` to `to` has its first line end, or `to`.
-fn line_end(buf: &[u8], from: usize, to: usize) -> usize
-    requires { (from ≤ to) × (to ≤ length buf.now) }
-    ensures { (from ≤ result) × (result ≤ to) }
-{
-    from + place_of(&buf[from..to], b'\n')
-}
+    // Reads the next line, as far as the room doesn't have it. False at the file's end, where there is none.
+    pub fn advance(&mut self, file: &mut impl Read) -> Result<bool, FetchError>
+        ensures { self.new.number ≡ min (self.old.number + 1) 18446744073709551615 }
+    {
+        self.number = self.number.saturating_add(1);
+        let next = self.next;
+        if self.take_line(next, next) {
+            return Ok(true);
+        }
+        let part = self.move_to_front();
+        self.filled = input::fill(file, &mut self.room, part)?;
+        if self.take_line(0, part) {
+            return Ok(true);
+        }
+        self.take_rest()
+    }
 
-// The line at the front of the buffer, of which the first `part` bytes are read and have no line end.
-fn read_line(file: &mut impl Read, buf: &mut [u8], part: usize, number: u64) -> Line
-    requires { part ≤ length buf.old }
-    ensures { (result.start ≤ result.end) × (result.end ≤ result.next) × (result.next ≤ result.filled) × (result.filled ≤ length buf.old) }
-{
-    let read = input::fill(file, buf, part);
-    if read.failed {
-        return no_line(Came::Unreadable, number);
+    // Takes the line that begins at `start` and has no line end before `from`, where what was read has its line end.
+    fn take_line(&mut self, start: usize, from: usize) -> bool
+        requires { (start ≤ from) × (from ≤ self.old.filled) }
+        ensures { self.new.number ≡ self.old.number }
+    {
+        let filled = self.filled;
+        let Some(n) = line_end(&self.room[from..filled]) else {
+            return false;
+        };
+        self.start = start;
+        self.end = from + n;
+        self.next = from + n + 1;
+        true
     }
-    let end = line_end(buf, part, read.len);
-    if end < read.len {
-        return whole_line(number, 0, end, read.len);
-    }
-    if read.len == buf.len() {
-        return no_line(Came::TooLong, number);
-    }
-    last_line(read.len, number)
-}
 
-// What stands at the front at the file's end: a line without a line end, or nothing.
-fn last_line(filled: usize, number: u64) -> Line
-    ensures { (result.start ≡ 0) × (result.end ≡ filled) × (result.next ≡ filled) × (result.filled ≡ filled) }
-{
-    if filled == 0 {
-        return no_line(Came::End, number);
+    // Moves what was read of the next line to the front, and answers how much that is. Until there is more, the room counts as empty.
+    fn move_to_front(&mut self) -> usize
+        ensures forgotten { (self.new.start ≡ 0) × (self.new.end ≡ 0) × (self.new.next ≡ 0) × (self.new.number ≡ self.old.number) }
+        ensures bound { result ≤ 16384 }
+    {
+        let next = self.next;
+        let filled = self.filled;
+        self.room.copy_within(next..filled, 0);
+        self.forget();
+        filled - next
     }
-    Line {
-        came: Came::Line,
-        number,
-        start: 0,
-        end: filled,
-        next: filled,
-        filled,
-    }
-}
 
-fn whole_line(number: u64, start: usize, end: usize, filled: usize) -> Line
-    requires { (start ≤ end) × (end < filled) }
-    ensures { (result.start ≤ result.end) × (result.end ≤ result.next) × (result.next ≤ result.filled) × (result.filled ≡ filled) }
-{
-    Line {
-        came: Came::Line,
-        number,
-        start,
-        end,
-        next: end + 1,
-        filled,
+    fn forget(&mut self)
+        ensures { (self.new.start ≡ 0) × (self.new.end ≡ 0) × (self.new.next ≡ 0) × (self.new.number ≡ self.old.number) }
+    {
+        self.start = 0;
+        self.end = 0;
+        self.next = 0;
+        self.filled = 0;
     }
-}
 
-fn number_after(number: u64) -> u64 {
-    if number == u64::MAX {
-        number
-    } else {
-        number + 1
+    // The line that ends with the file, without a line end: all that is in the room. Where that is full, the line is longer.
+    fn take_rest(&mut self) -> Result<bool, FetchError>
+        ensures { self.new.number ≡ self.old.number }
+    {
+        let filled = self.filled;
+        self.forget();
+        if filled == LINE_ROOM {
+            return Err(FetchError::TooLong);
+        }
+        self.filled = filled;
+        self.next = filled;
+        self.end = filled;
+        Ok(0 < filled)
     }
-}
-
-// The line after `last`, read from the file as far as the buffer doesn't have it.
-pub fn next(file: &mut impl Read, buf: &mut [u8], last: Line) -> Line
-    ensures { (result.start ≤ result.end) × (result.end ≤ result.next) × (result.next ≤ result.filled) × (result.filled ≤ length buf.old) }
-{
-    let number = number_after(last.number);
-    let filled = least(last.filled, buf.len());
-    let from = least(last.next, filled);
-    let end = line_end(buf, from, filled);
-    if end < filled {
-        return whole_line(number, from, end, filled);
-    }
-    move_to_front(buf, from, filled);
-    read_line(file, buf, filled - from, number)
 }

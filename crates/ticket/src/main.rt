@@ -11,65 +11,59 @@
 mod convert;
 mod report;
 
-use std::rt::Env;
-use text::say::say;
-
-// What the first argument asks for.
-#[derive(Clone, Copy)]
-enum Asked {
-    Write,
-    Read,
-    // another word, or another number of arguments
-    Usage,
-}
+use arguments::Argument;
+use std::rt::{Env, Files};
 
 fn say_usage(rt: &impl Print) {
-    say(rt, b"usage: ticket write PROOF TICKET\n");
-    say(rt, b"       ticket read TICKET PROOF\n");
-    say(
-        rt,
-        b"PROOF   a proof's file, as prove_and_verify writes it\n",
-    );
-    say(rt, b"TICKET  the same proof as a ticket\n");
-    say(
-        rt,
-        b"The first is read. The second is written; it must not be there yet\n",
-    );
+    let _ = println!(rt; "usage: ticket write PROOF TICKET");
+    let _ = println!(rt; "       ticket read TICKET PROOF");
+    let _ = println!(rt; "PROOF   a proof's file, as prove_and_verify writes it");
+    let _ = println!(rt; "TICKET  the same proof as a ticket");
+    let _ = println!(rt; "The first is read. The second is written; it must not be there yet");
 }
 
-// With so many words on the command line, the program's name among them.
-fn asked_for(rt: &impl Env, words: usize) -> Asked {
-    if words != 4 {
-        return Asked::Usage;
+// The names of two files, the second and the third argument. Each that is wrong has a message of its own.
+fn names<'a>(
+    rt: &(impl Env + Print),
+    first: &str,
+    second: &str,
+    from: &'a mut [u8],
+    to: &'a mut [u8],
+) -> Option<(&'a [u8], &'a [u8])> {
+    let from = Argument {
+        place: 2,
+        name: first,
     }
+    .path(rt, from);
+    let to = Argument {
+        place: 3,
+        name: second,
+    }
+    .path(rt, to);
+    Some((from?, to?))
+}
+
+// With four words on the command line, the program's name among them.
+fn run(rt: &(impl Env + Files + Print)) {
+    let mut from = [0u8; 4096];
+    let mut to = [0u8; 4096];
     if arguments::is_word(rt, 1, b"write") {
-        return Asked::Write;
+        if let Some((proof, ticket)) = names(rt, "PROOF", "TICKET", &mut from, &mut to) {
+            convert::write(rt, proof, ticket);
+        }
+    } else if arguments::is_word(rt, 1, b"read") {
+        if let Some((ticket, proof)) = names(rt, "TICKET", "PROOF", &mut from, &mut to) {
+            convert::read(rt, ticket, proof);
+        }
+    } else {
+        say_usage(rt);
     }
-    if arguments::is_word(rt, 1, b"read") {
-        return Asked::Read;
-    }
-    Asked::Usage
 }
 
 fn main(rt: HostRuntime) {
-    let mut from = io::buffer();
-    let mut to = io::buffer();
-    let way = asked_for(&rt, arguments::count(&rt));
-    match way {
-        Asked::Usage => say_usage(&rt),
-        Asked::Write => {
-            let n = arguments::path(&rt, 2, b"PROOF", &mut from);
-            let m = arguments::path(&rt, 3, b"TICKET", &mut to);
-            if n != 0 && m != 0 {
-                convert::write(&rt, &from[..n], &to[..m]);
-            }
-        }
-        Asked::Read => {
-            let n = arguments::path(&rt, 2, b"TICKET", &mut from);
-            let m = arguments::path(&rt, 3, b"PROOF", &mut to);
-            if n != 0 && m != 0 {
-                convert::read(&rt, &from[..n], &to[..m]);
-            }
-        }
+    if arguments::count(&rt) == 4 {
+        run(&rt);
+    } else {
+        say_usage(&rt);
     }
 }

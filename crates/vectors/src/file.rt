@@ -1,39 +1,32 @@
-// The stored lists as files.
-ghost use Rattle.std.specs.Prelude.{◌≡◌, length};
+// The stored lists as files, and what is said of them.
+use std::io::Read;
+use text::input::FetchError;
+use text::lines::LineReader;
 
-use crate::say::say_line;
-use std::rt::Files;
-use text::lines::Came;
-use text::say::say;
-
-// Opens a list, or says that it can't.
-pub fn open<R: Files + Print>(rt: &R, name: &[u8]) -> Option<R::File> {
-    let list = proof_files::open_read(rt, name);
-    if list.is_none() {
-        say(rt, name);
-        say(rt, b": can't be opened\n");
-    }
-    list
+// Says why the reading of a list ended before the list did, at the line of this number.
+fn say_unread(rt: &impl Print, name: &str, number: u64, error: FetchError) {
+    let why = match error {
+        FetchError::TooLong => "too long",
+        FetchError::Unreadable => "can't be read",
+    };
+    let _ = println!(rt; "{name} line {number}: {why}");
 }
 
-// Says what ended the reading of a list, where it was not the list's end.
-pub fn say_end(rt: &impl Print, name: &[u8], came: Came, number: u64) {
-    match came {
-        Came::TooLong => {
-            say_line(rt, name, number);
-            say(rt, b"too long\n");
-        }
-        Came::Unreadable => {
-            say_line(rt, name, number);
-            say(rt, b"can't be read\n");
-        }
-        _ => {}
-    }
+// Reads a list's next line: whether there is one. None where it can't be read, and a message says why.
+pub fn is_line_read(
+    rt: &impl Print,
+    name: &str,
+    list: &mut impl Read,
+    reader: &mut LineReader,
+) -> Option<bool> {
+    reader
+        .advance(list)
+        .inspect_err(|error| say_unread(rt, name, reader.number(), *error))
+        .ok()
 }
 
-// Room for a line, and for as much text or data as one has.
-pub fn room() -> [u8; 16384]
-    ensures { 16384 ≡ length result }
-{
-    [0; 16384]
+// Says how many of what a list has come out equal, and answers whether all have.
+pub fn say_counts(rt: &impl Print, what: &str, equal: u64, all: u64) -> bool {
+    let _ = println!(rt; "{what}: {equal} of {all}");
+    equal == all
 }

@@ -12,69 +12,59 @@ mod file;
 mod messages;
 mod million;
 mod said;
-mod say;
 mod ways;
 
-ghost use Rattle.std.specs.Prelude.{◌≤◌};
-
+use crate::file::say_counts;
 use crate::messages::Report;
-use crate::say::{say_counts, say_line};
 use std::rt::Files;
-use text::say::say;
 
-fn say_wrong(rt: &impl Print, name: &[u8], number: usize, what: &[u8]) {
-    if number == 0 {
-        return;
+fn say_wrong(rt: &impl Print, name: &str, number: Option<usize>, what: &str) {
+    if let Some(number) = number {
+        let _ = println!(rt; "{name} line {number}: {what}");
     }
-    say_line(rt, name, number as u64);
-    say(rt, what);
 }
 
 // Runs a list that should have so many lines, and says what is wrong with it.
-fn run_list(rt: &(impl Files + Print), name: &[u8], lines: usize) -> Report
-    ensures { (result.whole ≤ result.lines) × (result.lines ≤ 1024) }
-{
+fn run_list(rt: &(impl Files + Print), name: &str, lines: usize) -> Report {
     let report = messages::run(rt, name);
     say_wrong(
         rt,
         name,
         report.malformed,
-        b"not a message, a space and a digest\n",
+        "not a message, a space and a digest",
     );
-    say_wrong(rt, name, report.unequal, b"another digest\n");
+    say_wrong(rt, name, report.unequal, "another digest");
     if report.lines != lines {
-        say(rt, name);
-        say(rt, b": another number of lines than expected\n");
+        let _ = println!(rt; "{name}: another number of lines than expected");
     }
     report
 }
 
 // An example in the list counts where all ways to hash it give its digest.
 fn examples_are_equal(rt: &(impl Files + Print)) -> bool {
-    let report = run_list(rt, b"examples.txt", 4);
+    let report = run_list(rt, "examples.txt", 4);
     let equal = report.whole + million::equal();
-    say_counts(rt, b"FIPS 180-4 and NIST examples", equal as u64, 6);
-    equal == 6 && report.lines == 4
+    say_counts(rt, "FIPS 180-4 and NIST examples", equal as u64, 6) && report.lines == 4
 }
 
 fn messages_are_equal(rt: &(impl Files + Print)) -> bool {
-    let report = run_list(rt, b"messages.txt", 261);
+    let report = run_list(rt, "messages.txt", 261);
     say_counts(
         rt,
-        b"messages of 0 to 260 bytes, each cut in 7 ways and once byte by byte",
+        "messages of 0 to 260 bytes, each cut in 7 ways and once byte by byte",
         report.ways as u64,
         2088,
-    );
-    report.ways == 2088 && report.lines == 261
+    ) && report.lines == 261
 }
 
 fn main(rt: HostRuntime) {
     let examples = examples_are_equal(&rt);
     let messages = messages_are_equal(&rt);
-    let answers = answers::are_equal(&rt, b"answers.txt");
-    if examples && messages && answers {
-        say(&rt, b"all equal\n");
+    let answers = answers::are_equal(&rt, "answers.txt");
+    let verdict = if examples && messages && answers {
+        "all equal"
     } else {
-        say(&rt, b"NOT ALL EQUAL\n");
-    }
+        "NOT ALL EQUAL"
+    };
+    let _ = println!(rt; "{verdict}");
 }

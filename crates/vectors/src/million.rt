@@ -1,8 +1,7 @@
 // NIST's long example: a million times the letter a.
 ghost use Rattle.std.specs.Prelude.{◌≡◌, ◌≤◌, length};
 
-use crate::ways::one_if_equal;
-use sampling::sha256::{Hashed, Hasher, sha256};
+use sampling::sha256::{Hasher, TooLong, sha256};
 
 const DIGEST: [u8; 32] = [
     0xcd, 0xc7, 0x6e, 0x5c, 0x99, 0x14, 0xfb, 0x92, 0x81, 0xa1, 0xc7, 0xe2, 0x84, 0xd7, 0x3e, 0x67,
@@ -16,20 +15,17 @@ fn quarter_of_it() -> [u8; 250000]
     [b'a'; 250000]
 }
 
-fn hash_quarters() -> Hashed {
+fn hash_quarters() -> Result<[u8; 32], TooLong> {
     let quarter = quarter_of_it();
     sha256(&quarter, &quarter, &quarter, &quarter)
 }
 
 // The first thousand odd numbers, 1 to 1999, add up to a million.
-fn hash_odd_pieces(letters: &[u8]) -> Hashed
-    requires { 2000 ≤ length letters.now }
-{
+fn hash_odd_pieces() -> Result<[u8; 32], TooLong> {
+    let letters = [b'a'; 2000];
     let mut h = Hasher::new();
-    let mut size = 1;
-    while size < 2000 {
+    for size in (1..2000).step_by(2) {
         h = h.absorb(&letters[..size]);
-        size += 2;
     }
     h.finish()
 }
@@ -38,7 +34,5 @@ fn hash_odd_pieces(letters: &[u8]) -> Hashed
 pub fn equal() -> usize
     ensures { result ≤ 2 }
 {
-    let wanted = DIGEST;
-    let letters = [b'a'; 2000];
-    one_if_equal(hash_quarters(), &wanted) + one_if_equal(hash_odd_pieces(&letters), &wanted)
+    usize::from(hash_quarters() == Ok(DIGEST)) + usize::from(hash_odd_pieces() == Ok(DIGEST))
 }

@@ -6,9 +6,6 @@ use denote.Triple.Both.{Both}
 use Rattle.sampling.specs.core.FirstNumber.{line, first_number}
 use Rattle.sampling.specs.core.BigEndian.{bytes_of}
 use Rattle.centralized_telescope.specs.core.Lists.{some_of}
-use Rattle.centralized_telescope.specs.core.Refusals.{refusal_number}
-use Rattle.centralized_telescope.specs.declared.types.ListCheck.{ListCheck}
-use Rattle.centralized_telescope.specs.declared.types.ListCheck.TheVariants as check
 
 -- ---- 01, Elements: data bytes, with an index or without
 
@@ -100,8 +97,3 @@ too_large ends = nat_lt max_elements (length ends) || data_long 0 ends
 -- the list's number: 4, then 5, or 0 where it is accepted
 unfoldable pub list_check : Lent → ℕ
 list_check lent = first_number (line 4 (malformed lent) ∷ line 5 (too_large lent.ends) ∷ [])
-
--- 01's number for each answer of the check
-abbrev pub list_check_by : ListCheck → ℕ
-list_check_by check.Accepted = 0
-list_check_by (check.Refused k) = refusal_number k

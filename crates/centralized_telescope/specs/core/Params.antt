@@ -2,10 +2,7 @@
 use Rattle.std.specs.Prelude.{ℕ, ◌-◌, ◌^◌, Bool, ◌||◌, [], ◌∷◌, nat_lt}
 use Rattle.sampling.specs.core.FirstNumber.{line, first_number}
 use Rattle.sampling.specs.declared.sample.U128.{U128}
-use Rattle.centralized_telescope.specs.core.Refusals.{refusal_number}
 use Rattle.centralized_telescope.specs.declared.params.Params.{Params}
-use Rattle.centralized_telescope.specs.declared.params.Checked.{Checked}
-use Rattle.centralized_telescope.specs.declared.params.Checked.TheVariants as check
 
 -- ---- the settings
 
@@ -50,8 +47,3 @@ limit_broken p =
 -- 01, Lent and given back, the order of the table: the number of the first refusal, or 0. Every X is lawful (02, N4)
 unfoldable pub checked : Params → ℕ
 checked p = first_number (line 1 (set_size_out p.set_size) ∷ line 2 (limit_broken p) ∷ [])
-
--- 01's number for each answer of the check
-abbrev pub checked_by : Checked → ℕ
-checked_by check.Lawful = 0
-checked_by (check.Refused k) = refusal_number k

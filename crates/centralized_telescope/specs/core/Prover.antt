@@ -1,9 +1,10 @@
 -- Document 01, Search, and Lent and given back: the prover's answer, and the lent buffers afterwards.
-use Rattle.std.specs.Prelude.{ℕ, zero, suc, ◌+◌, ◌*◌, Bool, cond, ◌||◌, List, [], ◌∷◌, length, ◌==◌, nat_le, nat_lt}
+use Rattle.std.specs.Prelude.{ℕ, zero, suc, ◌+◌, ◌*◌, Bool, cond, ◌||◌, List, [], ◌∷◌, length, ◌==◌, nat_le, nat_lt, Result, Ok, Err}
 use Rattle.std.proofs.Math.Option.{Option, none, some}
 use Rattle.centralized_telescope.specs.declared.params.Params.{Params}
-use Rattle.centralized_telescope.specs.declared.search.ProofSearch.{ProofSearch}
-use Rattle.centralized_telescope.specs.declared.search.ProofSearch.TheVariants as answer
+use Rattle.centralized_telescope.specs.declared.search.Search.{Search}
+use Rattle.centralized_telescope.specs.declared.errors.Refusal.{Refusal}
+use Rattle.centralized_telescope.specs.declared.search.Search.TheVariants as search
 use Rattle.centralized_telescope.specs.core.Params.{checked}
 use Rattle.centralized_telescope.specs.core.Elements.{Element, elements, list_check, Lent}
 use Rattle.centralized_telescope.specs.core.Lists.{over}
@@ -68,9 +69,13 @@ proved p lent places table =
     let refusal : ℕ = prover_refusal p lent (length places) (length table) in
     cond (refusal == 0) (by_search p (elements lent) places table) (refused refusal places table)
 
--- 01's number and values for each answer of the prover, with the lent buffers as they are left
-abbrev pub proved_by : ProofSearch → List ℕ → List ℕ → Proved
-proved_by (answer.Found R S count) places table = answer_of 0 R.0 S.0 count places table
-proved_by (answer.NotFoundInBounds count) places table = answer_of 11 0 0 count places table
-proved_by (answer.NotFound count) places table = answer_of 12 0 0 count places table
-proved_by (answer.Refused k) places table = refused (refusal_number k) places table
+-- 01's number and values for each end of a search, with the lent buffers as they are left
+abbrev pub search_by : Search → List ℕ → List ℕ → Proved
+search_by (search.Found R S count) places table = answer_of 0 R.0 S.0 count places table
+search_by (search.NotFoundInBounds count) places table = answer_of 11 0 0 count places table
+search_by (search.NotFound count) places table = answer_of 12 0 0 count places table
+
+-- the same for each answer of the prover
+abbrev pub proved_by : Result Search Refusal → List ℕ → List ℕ → Proved
+proved_by (Ok found) places table = search_by found places table
+proved_by (Err k) places table = refused (refusal_number k) places table

@@ -1,6 +1,6 @@
 -- 01, Lent and given back, the table: the number of each refusal; from 40 up 02's. Every call's refusal has its number from here. 42 is
 -- also what `write_proof` gives (docs/DECISIONS.md, Lists).
-use Rattle.std.specs.Prelude.{ℕ}
+use Rattle.std.specs.Prelude.{ℕ, Result, Ok, Err}
 use Rattle.centralized_telescope.specs.declared.errors.Refusal.{Refusal}
 use Rattle.centralized_telescope.specs.declared.errors.Refusal.TheVariants as refusal
 
@@ -22,3 +22,8 @@ refusal_number refusal.PoolTooLarge = 45  -- 02, N8: the pool's size
 refusal_number refusal.RunChanged = 46  -- 02, N9: another digest
 refusal_number refusal.OtherRetry = 47  -- 02, N11: another retry counter than the table's
 refusal_number refusal.OtherTable = 48  -- 02, N11: another bin table
+
+-- the number of an answer that is a refusal or something else, which counts as 0
+abbrev pub answer_number : {A : Type 0} → Result A Refusal → ℕ
+answer_number (Ok a) = 0
+answer_number (Err k) = refusal_number k

@@ -1,5 +1,5 @@
 -- Document 01, Verifier.
-use Rattle.std.specs.Prelude.{ℕ, Bool, false, cond, not, ◌||◌, List, [], ◌∷◌, length, ◌==◌, nat_le}
+use Rattle.std.specs.Prelude.{ℕ, Bool, false, cond, not, ◌||◌, List, [], ◌∷◌, length, ◌==◌, nat_le, Result, Ok, Err}
 use Rattle.std.proofs.Math.Option.{Option, none, some}
 use Rattle.sampling.specs.declared.sample.U128.{U128}
 use Rattle.centralized_telescope.specs.declared.params.Params.{Params}
@@ -8,8 +8,8 @@ use Rattle.centralized_telescope.specs.core.Elements.{Element, elements, list_ch
 use Rattle.sampling.specs.core.FirstNumber.{line, first_number}
 use Rattle.centralized_telescope.specs.core.Refusals.{refusal_number}
 use Rattle.centralized_telescope.specs.core.Rounds.{start_hash, next_hash, round_id, bin_of, says_yes}
-use Rattle.centralized_telescope.specs.declared.proof.Verdict.{Verdict}
-use Rattle.centralized_telescope.specs.declared.proof.Verdict.TheVariants as answer
+use Rattle.centralized_telescope.specs.declared.proof.Rejection.{Rejection}
+use Rattle.centralized_telescope.specs.declared.proof.Rejection.TheVariants as answer
 
 -- ---- the last hash of the chain of a proof's elements, from the first to the last, if it exists
 
@@ -58,9 +58,9 @@ unfoldable pub verdict : Params → ℕ → ℕ → Lent → ℕ
 verdict p R S lent = first_number (checked p ∷ list_check lent ∷ judged p R S (elements lent) ∷ [])
 
 -- 01's number for each answer of the verifier
-abbrev pub verdict_by : Verdict → ℕ
-verdict_by answer.Accepted = 0
-verdict_by answer.IncorrectNumberElements = 20
-verdict_by answer.InvalidParameters = 21
-verdict_by answer.InvalidProof = 22
-verdict_by (answer.Refused k) = refusal_number k
+abbrev pub verdict_by : Result (Unit {0}) Rejection → ℕ
+verdict_by (Ok _) = 0
+verdict_by (Err answer.IncorrectNumberElements) = 20
+verdict_by (Err answer.InvalidParameters) = 21
+verdict_by (Err answer.InvalidProof) = 22
+verdict_by (Err (answer.Refused k)) = refusal_number k

@@ -1,30 +1,31 @@
 -- The verifier's chain as the code follows it, a round at a time, and its judgement in two parts.
-use Rattle.std.specs.Prelude.{ℕ, Bool, true, false, not, List, [], ◌∷◌, ◌==◌}
+use Rattle.std.specs.Prelude.{ℕ, not, List, [], ◌∷◌, ◌==◌}
 use Rattle.std.proofs.Math.Option.{Option, none, some}
 use Rattle.centralized_telescope.specs.declared.params.Params.{Params}
 use Rattle.centralized_telescope.specs.declared.round.Round.{Round}
 use Rattle.sampling.specs.core.FirstNumber.{line, first_number}
 use Rattle.centralized_telescope.specs.core.Elements.{Element}
-use Rattle.centralized_telescope.specs.core.Verifier.{if_some, is_bin, follow, counters_out}
-use Rattle.centralized_telescope.specs.inner.RoundAnswers.{id_option}
+use Rattle.centralized_telescope.specs.core.Verifier.{follow, counters_out}
 
 -- ---- the chain
 
-abbrev pub is_nowhere : Option ℕ → Bool
-is_nowhere none = true
-is_nowhere (some i) = false
+abbrev pub ElementList : Type 0
+ElementList = List Element
 
--- there is a bin, and it is the id, of which there is one too
-abbrev pub is_met : Option ℕ → Option ℕ → Bool
-is_met bin none = false
-is_met bin (some i) = is_bin bin i
+-- a round by its hash and the id that is drawn from it, if there is one
+abbrev pub round_with : List ℕ → Option ℕ → Option Round
+round_with h none = none
+round_with h (some i) = some (record { hash = h; id = i })
 
--- the last hash of the chain of some elements behind a round with the hash h, if it has an id
-abbrev pub followed_from : Params → ℕ → List ℕ → Option ℕ → List Element → Option (List ℕ)
-followed_from p R h o es = if_some o (λ (i : ℕ). follow p R h i es)
+-- the last hash of the chain of some elements behind a round, if there is one
+abbrev pub followed : Params → ℕ → Option Round → List Element → Option (List ℕ)
+followed p R none es = none
+followed p R (some r) es = follow p R r.hash r.id es
 
-abbrev pub followed : Params → ℕ → Round → List Element → Option (List ℕ)
-followed p R r es = followed_from p R r.hash (id_option r.id) es
+-- the hash of a round, if there is one
+abbrev pub hash_of : Option Round → Option (List ℕ)
+hash_of none = none
+hash_of (some r) = some r.hash
 
 -- ---- the judgement
 

@@ -1,13 +1,8 @@
 -- A lent list as the code reads it. ElementsLaws and ProofListLaws tie this to `elements`, and the proofs to `list_check`.
-use Rattle.std.specs.Prelude.{ℕ, ◌-◌, Bool, not, ◌||◌, List, [], ◌∷◌, ◌++◌, take, drop, ◌==◌, nat_lt, slice_index}
+use Rattle.std.specs.Prelude.{ℕ, ◌-◌, Bool, not, ◌||◌, List, [], ◌∷◌, take, drop, ◌==◌, nat_lt, slice_index}
 use Rattle.std.proofs.Math.Option.{Option}
-use Rattle.std.specs.Borrow.{Bor}
 use Rattle.sampling.specs.core.FirstNumber.{line, first_number}
-use Rattle.centralized_telescope.specs.core.Elements.{Element, Lent, lent_of, index_of, max_elements}
-
--- the list that four slices hold, where an inner contract asks
-abbrev pub lent_now : Bor (List ℕ) → Bor (List ℕ) → Bor (List ℕ) → Bor (List ℕ) → Lent
-lent_now bytes ends marks indexes = lent_of bytes.now ends.now marks.now indexes.now
+use Rattle.centralized_telescope.specs.core.Elements.{index_of, max_elements}
 
 -- ---- one place
 
@@ -22,17 +17,6 @@ data_at bytes ends place = take (slice_index ends place - start_at ends place) (
 -- its index, if it has one
 abbrev pub index_at : List ℕ → List ℕ → ℕ → Option ℕ
 index_at marks indexes place = index_of (slice_index marks place) (slice_index indexes place)
-
--- an element by what is lent of it: its data bytes, its mark and its index
-abbrev pub element_of : List ℕ → ℕ → ℕ → Element
-element_of own mark n = record { bytes = own; index = index_of mark n }
-
--- ---- some places
-
--- the data bytes of the elements there
-unfoldable pub data_of : List ℕ → List ℕ → List ℕ → List ℕ
-data_of bytes ends [] = []
-data_of bytes ends (place ∷ places) = data_at bytes ends place ++ data_of bytes ends places
 
 -- ---- the list's number
 

@@ -1,22 +1,14 @@
 -- What pooling promises on the way: which of the second list's places are added. No reader need believe this: what the calls answer is in
 -- `Pool`.
-use Rattle.std.specs.Prelude.{◌≡◌, ℕ, ◌+◌, ◌-◌, ◌<◌, ◌≤◌, List, map, length, take, slice_index}
-use Rattle.centralized_telescope.specs.core.Elements.{Element, elements, element_at, Lent, max_elements}
+use Rattle.std.specs.Prelude.{◌≡◌, ℕ, ◌+◌, ◌<◌, ◌≤◌, List, map, length, take, slice_index, Some, None, Result, Ok, Err}
+use Rattle.std.specs.Prelude.{Option as Answer}
+use Rattle.centralized_telescope.specs.core.Elements.{elements, element_at, Lent, max_elements}
 use Rattle.centralized_telescope.specs.core.Refusals.{refusal_number}
 use Rattle.centralized_telescope.specs.later.Pool.{added_to, pool, pool_refusal}
-use Rattle.centralized_telescope.specs.inner.Sorting.{Below}
-use Rattle.centralized_telescope.specs.declared.pool.Added.{Added}
-use Rattle.centralized_telescope.specs.declared.pool.Added.TheVariants as added
-use Rattle.centralized_telescope.specs.declared.pool.PoolSize.{PoolSize}
-use Rattle.centralized_telescope.specs.declared.pool.PoolSize.TheVariants as is
-
--- ---- one element sought among sorted keys: those before low are before its key w, those from high on behind it
-
-pub record Seeking (d f : ℕ → Element) (n : ℕ) (ws : List ℕ) (w low high : ℕ) : Type 0 where
-  pub order : low ≤ high
-  pub within : high ≤ n
-  pub before : (x : ℕ) → x < low → Below d f (slice_index ws x) w
-  pub behind : (x : ℕ) → high ≤ x → x < n → Below f d w (slice_index ws x)
+use Rattle.centralized_telescope.specs.declared.source.Source.{Source}
+use Rattle.centralized_telescope.specs.declared.errors.Refusal.{Refusal}
+use Rattle.centralized_telescope.specs.inner.Source.{meant}
+use Rattle.centralized_telescope.specs.inner.SourceHeld.{source_held}
 
 -- ---- the first k numbers of ws are the places of the second list that are added, up to one of its places
 
@@ -34,18 +26,12 @@ pub record AddedAre (first second : Lent) (k : ℕ) (ws : List ℕ) : Type 0 whe
   pub are : map (element_at (elements second)) (take k ws) ≡ added_to (elements first) (elements second)
   pub there : (i : ℕ) → i < k → slice_index ws i < length second.ends
 
-abbrev pub AddedBy : Lent → Lent → Added → List ℕ → Type 0
-AddedBy first second (added.Places k) ws = AddedAre first second k ws
-AddedBy first second added.TooMany ws = max_elements < length (pool first second)
+abbrev pub AddedBy : Lent → Lent → Answer ℕ → List ℕ → Type 0
+AddedBy first second (Some k) ws = AddedAre first second k ws
+AddedBy first second None ws = max_elements < length (pool first second)
 
--- ---- the pool's size, with them
+-- ---- the pool, with them
 
-pub record Pooled (first second : Lent) (size : ℕ) (ws : List ℕ) : Type 0 where
-  pub unrefused : pool_refusal first second ≡ 0
-  pub size_is : size ≡ length (pool first second)
-  pub at_least : length first.ends ≤ size
-  pub added : AddedAre first second (size - length first.ends) ws
-
-abbrev pub PooledInto : Lent → Lent → PoolSize → List ℕ → Type 0
-PooledInto first second (is.Of size) ws = Pooled first second size ws
-PooledInto first second (is.Refused k) ws = pool_refusal first second ≡ refusal_number k
+abbrev pub PoolOf : Lent → Lent → Result Source Refusal → Type 0
+PoolOf first second (Ok s) = (pool_refusal first second ≡ 0) × (meant (source_held s) ≡ pool first second)
+PoolOf first second (Err k) = pool_refusal first second ≡ refusal_number k

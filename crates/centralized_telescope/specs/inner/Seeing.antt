@@ -1,5 +1,5 @@
 -- What a party is refused before the lent bin table is looked at, and what the code keeps of a table that it has looked at.
-use Rattle.std.specs.Prelude.{◌≡◌, ℕ, not, List, [], ◌∷◌, ◌==◌, ◌≢◌}
+use Rattle.std.specs.Prelude.{◌≡◌, ℕ, not, List, [], ◌∷◌, ◌==◌, Option, Some, None}
 use Rattle.sampling.specs.core.FirstNumber.{line, first_number}
 use Rattle.centralized_telescope.specs.declared.products.PartyAnswer.{PartyAnswer}
 use Rattle.centralized_telescope.specs.declared.products.Seen.{Seen}
@@ -14,8 +14,9 @@ early_refusal p lent R table_retry places_len table_len =
     first_number (prover_refusal p lent places_len table_len ∷ line 47 (not (R == table_retry)) ∷ [])
 
 -- what is kept, if anything, is true of the table
-abbrev pub TrueOf : Lent → ℕ → List ℕ → Seen → Type 0
-TrueOf lent R table seen = (seen.n ≢ 0) → seen.right ≡ table_right seen.n R (elements lent) table
+abbrev pub TrueOf : Lent → ℕ → List ℕ → Option Seen → Type 0
+TrueOf lent R table (Some seen) = seen.right ≡ table_right seen.n R (elements lent) table
+TrueOf lent R table None = Unit {0}
 
 -- a party's answer, with its places afterwards
 pub record PartyServed (lent : Lent) (table_retry : ℕ) (table : List ℕ) (p : Params) (R : ℕ) (places after : List ℕ) (r : PartyAnswer)

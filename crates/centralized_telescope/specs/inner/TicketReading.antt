@@ -1,17 +1,14 @@
 -- What the reader of a ticket looks at, from the front. TicketsLaws ties it to `elements_in`, TicketsReadLaws to `is_ticket`.
-use Rattle.std.specs.Prelude.{◌≡◌, ℕ, zero, suc, ◌+◌, ◌*◌, ◌/◌, ◌≤◌, Bool, true, false, not, ◌&&◌, List, length, drop, nat_le, nat_lt, slice_index}
+use Rattle.std.specs.Prelude.{◌≡◌, ℕ, zero, suc, ◌+◌, ◌*◌, ◌/◌, ◌≤◌, Bool, true, false, not, ◌&&◌, List, length, drop, nat_le, nat_lt, slice_index, Option, Some, None}
 use Rattle.sampling.specs.core.BigEndian.{big_endian}
 use Rattle.centralized_telescope.specs.core.Lists.{some_of}
 use Rattle.centralized_telescope.specs.later.Blocks.{bodies_of, block_bytes, body_bytes, max_filling}
 use Rattle.centralized_telescope.specs.later.Tickets.{count_in, is_ticket, elements_part, ticket_head_bytes}
-use Rattle.centralized_telescope.specs.declared.ticket.Head.{Head}
-use Rattle.centralized_telescope.specs.declared.ticket.Head.TheVariants as head
 use Rattle.centralized_telescope.specs.declared.ticket.HeadRead.{HeadRead}
 use Rattle.centralized_telescope.specs.declared.ticket.Found.{Found}
-use Rattle.centralized_telescope.specs.declared.ticket.Found.TheVariants as found
 use Rattle.centralized_telescope.specs.declared.ticket.Layout.{Layout}
-use Rattle.centralized_telescope.specs.declared.ticket.Layout.TheVariants as layout
-use Rattle.centralized_telescope.specs.core.Elements.{max_data_bytes, max_elements}
+use Rattle.centralized_telescope.specs.core.Elements.{index_of, max_data_bytes, max_elements}
+use Rattle.centralized_telescope.specs.inner.Held.{option_of}
 
 -- ---- one element at the front of bytes: its mark, how long its head is, how many data bytes follow
 
@@ -31,14 +28,13 @@ laid_out s =
 
 pub record HeadIs (h : HeadRead) (s : List ℕ) : Type 0 where
   pub laid : laid_out s ≡ true
-  pub mark : h.mark ≡ mark_in s
-  pub index : h.«index» ≡ big_endian (8 * mark_in s) (drop 1 s)
+  pub index : option_of h.«index» ≡ index_of (mark_in s) (big_endian 8 (drop 1 s))
   pub len : h.len ≡ head_size s
   pub size : h.size ≡ size_in s
 
-abbrev pub HeadSays : Head → List ℕ → Type 0
-HeadSays (head.Element h) s = HeadIs h s
-HeadSays head.Outside s = laid_out s ≡ false
+abbrev pub HeadSays : Option HeadRead → List ℕ → Type 0
+HeadSays (Some h) s = HeadIs h s
+HeadSays None s = laid_out s ≡ false
 
 -- ---- n elements at the front of bytes: whether they are there, how long they are, how many data bytes they have
 
@@ -59,9 +55,9 @@ pub record LayoutIs (at used n : ℕ) (b : List ℕ) : Type 0 where
   pub ends_at : at ≡ ticket_head_bytes + layout_size n (elements_part b)
   pub uses : used ≡ data_size n (elements_part b)
 
-abbrev pub LayoutSays : Layout → ℕ → List ℕ → Type 0
-LayoutSays (layout.Elements at used) n b = LayoutIs at used n b
-LayoutSays layout.Outside n b = all_laid_out n (elements_part b) ≡ false
+abbrev pub LayoutSays : Option Layout → ℕ → List ℕ → Type 0
+LayoutSays (Some layout) n b = LayoutIs layout.end layout.bytes n b
+LayoutSays None n b = all_laid_out n (elements_part b) ≡ false
 
 -- ---- what follows the elements: zeros, and less than a body
 
@@ -78,6 +74,6 @@ pub record FoundIs (count size : ℕ) (t : List ℕ) : Type 0 where
   pub laid : all_laid_out count (elements_part (bodies_of t)) ≡ true
   pub uses : size ≡ data_size count (elements_part (bodies_of t))
 
-abbrev pub FoundSays : Found → List ℕ → Type 0
-FoundSays (found.Elements count size) t = FoundIs count size t
-FoundSays found.NoTicket t = is_ticket t ≡ false
+abbrev pub FoundSays : Option Found → List ℕ → Type 0
+FoundSays (Some found) t = FoundIs found.elements found.bytes t
+FoundSays None t = is_ticket t ≡ false

@@ -1,23 +1,17 @@
 -- What the parts of the search's code give, in the terms of Search and of Walk. Nothing here is to be believed by a reader: the
 -- contract of `prove` speaks of Prover alone, and the proofs tie these to it.
-use Rattle.std.specs.Prelude.{◌≡◌, ℕ, ◌+◌, ◌-◌, ◌<◌, ◌≤◌, cond, List, ◌++◌, nat_lt}
+use Rattle.std.specs.Prelude.{◌≡◌, ℕ, ◌+◌, ◌-◌, ◌<◌, ◌≤◌, cond, List, nat_lt}
 use Rattle.centralized_telescope.specs.declared.params.Params.{Params}
-use Rattle.centralized_telescope.specs.declared.search.Outcome.{Outcome}
-use Rattle.centralized_telescope.specs.declared.search.Outcome.TheVariants as outcome
-use Rattle.centralized_telescope.specs.declared.search.Attempt.{Attempt}
-use Rattle.centralized_telescope.specs.declared.search.Attempt.TheVariants as attempt
-use Rattle.centralized_telescope.specs.core.Params.{checked}
+use Rattle.centralized_telescope.specs.declared.round.SearchCounter.{SearchCounter}
+use Rattle.std.specs.declared.ops.ControlFlow.{ControlFlow}
+use Rattle.std.specs.declared.ops.ControlFlow.TheVariants.{Break, Continue}
 use Rattle.centralized_telescope.specs.core.Lists.{over}
-use Rattle.centralized_telescope.specs.core.Bins.{table_of}
-use Rattle.centralized_telescope.specs.core.Chains.{Try, try_of, Chain}
-use Rattle.centralized_telescope.specs.core.Search.{bins_of, along, chains, chains_from, passing}
-use Rattle.centralized_telescope.specs.inner.Source.{Source, meant, Readable}
-use Rattle.centralized_telescope.specs.inner.BinSpans.{HoldsBin}
+use Rattle.centralized_telescope.specs.core.Chains.{Try, Chain}
+use Rattle.centralized_telescope.specs.core.Search.{places_in, along, chains, chains_from, passing}
+use Rattle.centralized_telescope.specs.inner.SourceHeld.{source_held}
+use Rattle.centralized_telescope.specs.inner.TryTables.{try_on}
+use Rattle.centralized_telescope.specs.declared.ready.ReadyTry.{ReadyTry}
 use Rattle.centralized_telescope.specs.inner.Walk.{Ended, found, missing, walk}
-
--- the try of a retry counter on a source
-abbrev pub try_on : Params → Source → ℕ → Try
-try_on p s R = try_of p (meant s) R
 
 -- ---- the walk of some of a try's chains, after `count` steps
 
@@ -37,13 +31,13 @@ tried T w S count = walk (passing T) T.settings.dfs_bound count (chains_from T w
 
 -- ---- the answers, and the lent places afterwards
 
-abbrev pub outcome_of : Ended Chain → Outcome
-outcome_of (found count c) = outcome.Found count
-outcome_of (missing count) = outcome.Missing count
+abbrev pub outcome_of : Ended Chain → ControlFlow ℕ ℕ
+outcome_of (found count c) = Break count
+outcome_of (missing count) = Continue count
 
-abbrev pub attempt_of : Ended Chain → Attempt
-attempt_of (found count c) = attempt.Found (record { 0 = c.search }) count
-attempt_of (missing count) = attempt.Missing count
+abbrev pub attempt_of : Ended Chain → ControlFlow (SearchCounter × ℕ) ℕ
+attempt_of (found count c) = Break (record { 0 = c.search }, count)
+attempt_of (missing count) = Continue count
 
 unfoldable pub written : Ended Chain → List ℕ → List ℕ
 written (found count c) places = over c.places places
@@ -53,29 +47,25 @@ written (missing count) places = places
 unfoldable pub written_from : Params → ℕ → Ended Chain → List ℕ → List ℕ
 written_from p depth r places = cond (nat_lt depth p.proof_size) (written r places) places
 
--- ---- what the search is given: settings that pass the check, a source that may be read, the try's bin table, and room
+-- ---- what the search is given: a try that is ready, and room for its places
 
-pub record Ready (p : Params) (s : Source) (R : ℕ) (table : List ℕ) (room : ℕ) : Type 0 where
-  pub settings : checked p ≡ 0
-  pub source : Readable s
-  pub rest : List ℕ
-  pub table_is : table ≡ table_of p.set_size (bins_of (try_on p s R)) ++ rest
-  pub roomy : p.proof_size ≤ room
+abbrev pub try_held : ReadyTry → Try
+try_held t = try_on t.settings.params (source_held t.source) t.retry.0
 
 -- a visit at a depth of a round with this id
-pub record CanVisit (p : Params) (s : Source) (R : ℕ) (table : List ℕ) (room id depth steps : ℕ) : Type 0 where
-  pub ready : Ready p s R table room
-  pub id_below : id < p.set_size
-  pub deep : depth ≤ p.proof_size
-  pub within : steps < p.dfs_bound
+pub record CanVisit (t : ReadyTry) (room id depth steps : ℕ) : Type 0 where
+  pub roomy : t.settings.params.proof_size ≤ room
+  pub id_below : id < t.settings.params.set_size
+  pub deep : depth ≤ t.settings.params.proof_size
+  pub within : steps < t.settings.params.dfs_bound
 
--- a walk of a bin's span of the table
-pub record CanWalk (p : Params) (s : Source) (R : ℕ) (table : List ℕ) (room from to depth steps : ℕ) : Type 0 where
-  pub ready : Ready p s R table room
+-- a walk of a bin's places
+pub record CanWalk (t : ReadyTry) (room : ℕ) (candidates : List ℕ) (depth steps : ℕ) : Type 0 where
+  pub roomy : t.settings.params.proof_size ≤ room
   pub bin : ℕ
-  pub span : HoldsBin (bins_of (try_on p s R)) table bin from to
-  pub deep : depth < p.proof_size
-  pub within : steps ≤ p.dfs_bound
+  pub of_bin : candidates ≡ places_in (try_held t) bin
+  pub deep : depth < t.settings.params.proof_size
+  pub within : steps ≤ t.settings.params.dfs_bound
 
 -- ---- what the code promises: its answer, and the lent places afterwards
 
@@ -83,11 +73,11 @@ pub record Answers {A : Type 0} (answer said : A) (after left : List ℕ) : Type
   pub answer_is : answer ≡ said
   pub places_are : after ≡ left
 
-abbrev pub VisitEnds : Params → ℕ → Ended Chain → Outcome → List ℕ → List ℕ → Type 0
+abbrev pub VisitEnds : Params → ℕ → Ended Chain → ControlFlow ℕ ℕ → List ℕ → List ℕ → Type 0
 VisitEnds p depth w r places after = Answers r (outcome_of w) after (written_from p depth w places)
 
-abbrev pub WalkEnds : Ended Chain → Outcome → List ℕ → List ℕ → Type 0
+abbrev pub WalkEnds : Ended Chain → ControlFlow ℕ ℕ → List ℕ → List ℕ → Type 0
 WalkEnds w r places after = Answers r (outcome_of w) after (written w places)
 
-abbrev pub TryEnds : Ended Chain → Attempt → List ℕ → List ℕ → Type 0
+abbrev pub TryEnds : Ended Chain → ControlFlow (SearchCounter × ℕ) ℕ → List ℕ → List ℕ → Type 0
 TryEnds w r places after = Answers r (attempt_of w) after (written w places)

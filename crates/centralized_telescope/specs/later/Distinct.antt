@@ -1,11 +1,10 @@
 -- Document 01, Distinctness, as 02's N2 has it read: whether no element of a list stands at two of its places.
-use Rattle.std.specs.Prelude.{◌≡◌, ℕ, ◌<◌, Bool, true, false, cond, not, ◌&&◌, ◌↔◌, List, [], ◌∷◌, length, ◌==◌, ◌≢◌}
+use Rattle.std.specs.Prelude.{◌≡◌, ℕ, ◌<◌, Bool, true, false, cond, not, ◌&&◌, ◌↔◌, List, [], ◌∷◌, length, ◌==◌, ◌≢◌, Result, Ok, Err}
 use Rattle.centralized_telescope.specs.core.Lists.{some_of}
 use Rattle.centralized_telescope.specs.later.Words.{same_bytes, mark_of, number_of}
 use Rattle.centralized_telescope.specs.core.Refusals.{refusal_number}
 use Rattle.centralized_telescope.specs.core.Elements.{Element, elements, element_at, list_check, Lent}
-use Rattle.centralized_telescope.specs.declared.misc.Distinctness.{Distinctness}
-use Rattle.centralized_telescope.specs.declared.misc.Distinctness.TheVariants as is
+use Rattle.centralized_telescope.specs.declared.errors.Refusal.{Refusal}
 
 -- no two places hold the same element
 abbrev pub Distinct : List Element → Type 0
@@ -34,7 +33,6 @@ distinct lent =
     cond (list_check lent == 0) (0, none_equal (elements lent)) (list_check lent, false)
 
 -- 01's number and the yes or no for each answer
-abbrev pub distinct_by : Distinctness → ℕ × Bool
-distinct_by is.Distinct = (0, true)
-distinct_by is.Repeated = (0, false)
-distinct_by (is.Refused k) = (refusal_number k, false)
+abbrev pub distinct_by : Result Bool Refusal → ℕ × Bool
+distinct_by (Ok apart) = (0, apart)
+distinct_by (Err k) = (refusal_number k, false)

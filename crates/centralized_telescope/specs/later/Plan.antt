@@ -1,11 +1,10 @@
 -- Document 02, N5: the amounts that a run takes, from its settings and the longest data alone.
-use Rattle.std.specs.Prelude.{ℕ, ◌+◌, ◌*◌, cond, [], ◌∷◌, ◌==◌, nat_lt}
+use Rattle.std.specs.Prelude.{ℕ, ◌+◌, ◌*◌, cond, [], ◌∷◌, ◌==◌, nat_lt, Result, Ok, Err}
 use Rattle.centralized_telescope.specs.declared.params.Params.{Params}
 use Rattle.centralized_telescope.specs.declared.planning.Amounts.{Amounts}
-use Rattle.centralized_telescope.specs.declared.planning.Planned.{Planned}
-use Rattle.centralized_telescope.specs.declared.planning.Planned.TheVariants as answer
 use Rattle.sampling.specs.core.FirstNumber.{line, first_number}
 use Rattle.centralized_telescope.specs.core.Refusals.{refusal_number}
+use Rattle.centralized_telescope.specs.declared.errors.Refusal.{Refusal}
 use Rattle.centralized_telescope.specs.core.Params.{checked}
 use Rattle.centralized_telescope.specs.core.Elements.{max_data_bytes}
 use Rattle.centralized_telescope.specs.later.ElementBytes.{max_head_bytes}
@@ -34,6 +33,6 @@ unfoldable pub planned : Params → ℕ → ℕ × Amounts
 planned p longest = cond (plan_refusal p longest == 0) (0, amounts p longest) (plan_refusal p longest, no_amounts)
 
 -- 01's number and the amounts for each answer
-abbrev pub planned_by : Planned → ℕ × Amounts
-planned_by (answer.Amounts a) = (0, a)
-planned_by (answer.Refused k) = (refusal_number k, no_amounts)
+abbrev pub planned_by : Result Amounts Refusal → ℕ × Amounts
+planned_by (Ok a) = (0, a)
+planned_by (Err k) = (refusal_number k, no_amounts)

@@ -1,5 +1,5 @@
 -- 02, N8: two lists pooled, the call for the pool's size, the lookup by place, and the prover over the pool.
-use Rattle.std.specs.Prelude.{ℕ, Bool, cond, List, [], ◌∷◌, ◌++◌, length, ◌==◌, nat_lt}
+use Rattle.std.specs.Prelude.{ℕ, Bool, cond, List, [], ◌∷◌, ◌++◌, length, ◌==◌, nat_lt, Result, Ok, Err}
 use Rattle.sampling.specs.core.FirstNumber.{line, first_number}
 use Rattle.centralized_telescope.specs.core.Lists.{some_of}
 use Rattle.centralized_telescope.specs.core.Refusals.{refusal_number}
@@ -8,8 +8,7 @@ use Rattle.centralized_telescope.specs.core.Params.{checked}
 use Rattle.centralized_telescope.specs.core.Prover.{Proved, refused, by_search, room_refusals}
 use Rattle.centralized_telescope.specs.later.Distinct.{same_element}
 use Rattle.centralized_telescope.specs.declared.params.Params.{Params}
-use Rattle.centralized_telescope.specs.declared.pool.PoolSize.{PoolSize}
-use Rattle.centralized_telescope.specs.declared.pool.PoolSize.TheVariants as is
+use Rattle.centralized_telescope.specs.declared.errors.Refusal.{Refusal}
 
 -- ---- the pool
 
@@ -43,9 +42,9 @@ pool_size first second =
     cond (pool_refusal first second == 0) (0, length (pool first second)) (pool_refusal first second, 0)
 
 -- the number and the size for each answer
-abbrev pub pool_size_by : PoolSize → ℕ × ℕ
-pool_size_by (is.Of size) = (0, size)
-pool_size_by (is.Refused k) = (refusal_number k, 0)
+abbrev pub pool_size_by : Result ℕ Refusal → ℕ × ℕ
+pool_size_by (Ok size) = (0, size)
+pool_size_by (Err k) = (refusal_number k, 0)
 
 -- ---- the lookup: the data of the element at a place of the pool; nothing past the pool, or where lists or pool are refused
 

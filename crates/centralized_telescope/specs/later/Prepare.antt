@@ -1,11 +1,12 @@
 -- Document 02, N9: the bytes that a run stands for, their hash, and what `prepare` and `commit` answer and leave.
-use Rattle.std.specs.Prelude.{ℕ, cond, not, List, [], ◌∷◌, ◌++◌, length, replicate, ◌==◌}
+use Rattle.std.specs.Prelude.{ℕ, cond, not, List, [], ◌∷◌, ◌++◌, length, replicate, ◌==◌, Result, Ok, Err}
 use Rattle.sampling.specs.core.BigEndian.{bytes_of}
 use Rattle.sampling.specs.core.FirstNumber.{line, first_number}
 use Rattle.sampling.specs.core.Fips180.{sha256}
 use Rattle.sampling.specs.core.Sample.{value_of}
 use Rattle.centralized_telescope.specs.declared.params.Params.{Params}
-use Rattle.centralized_telescope.specs.declared.preparing.Prepared.{Prepared}
+use Rattle.centralized_telescope.specs.declared.errors.Refusal.{Refusal}
+use Rattle.centralized_telescope.specs.core.Refusals.{refusal_number}
 use Rattle.centralized_telescope.specs.core.Elements.{Element, elements, Lent}
 use Rattle.centralized_telescope.specs.core.Prover.{Proved, refused, by_search, prover_refusal}
 use Rattle.centralized_telescope.specs.later.Words.{same_bytes}
@@ -38,8 +39,9 @@ prepared p lent places_len table_len =
     cond (refusal == 0) (0, run_digest p (elements lent)) (refusal, replicate 32 0)
 
 -- the number and the digest of an answer
-abbrev pub prepared_by : Prepared → ℕ × List ℕ
-prepared_by r = (r.number, r.digest)
+abbrev pub prepared_by : Result (List ℕ) Refusal → ℕ × List ℕ
+prepared_by (Ok digest) = (0, digest)
+prepared_by (Err k) = (refusal_number k, replicate 32 0)
 
 -- ---- commit: the prover's checks, then 46 for a digest that differs, then the search
 

@@ -1,13 +1,12 @@
 -- Elements written out the way lists are lent, which document 01, Verifier, has a prover's proof be, and what `write_proof` answers and
 -- leaves in each lent buffer.
-use Rattle.std.specs.Prelude.{◌≡◌, ℕ, ◌+◌, Bool, cond, ◌||◌, List, [], ◌∷◌, ◌++◌, map, length, take, ◌==◌, nat_le, nat_lt}
+use Rattle.std.specs.Prelude.{◌≡◌, ℕ, ◌+◌, Bool, cond, ◌||◌, List, [], ◌∷◌, ◌++◌, map, length, take, ◌==◌, nat_le, nat_lt, Result, Ok, Err}
 use Rattle.centralized_telescope.specs.core.Elements.{Element, elements, element_at, list_check, Lent, max_elements, lent_of}
 use Rattle.centralized_telescope.specs.later.Words.{mark_of, number_of}
 use Rattle.centralized_telescope.specs.core.Lists.{some_of, over}
 use Rattle.sampling.specs.core.FirstNumber.{line, first_number}
 use Rattle.centralized_telescope.specs.core.Refusals.{refusal_number}
-use Rattle.centralized_telescope.specs.declared.proof_list.Written.{Written}
-use Rattle.centralized_telescope.specs.declared.proof_list.Written.TheVariants as w
+use Rattle.centralized_telescope.specs.declared.errors.Refusal.{Refusal}
 
 -- ---- elements as a list: data bytes, ends, marks and indexes
 
@@ -91,9 +90,9 @@ module _ (places : List ℕ) (lent buffers : Lent) where
       cond (write_refusal == 0) (list_over (chosen places lent) buffers) (with_buffers write_refusal 0 buffers)
 
 -- the number for each answer, and the buffers with it
-abbrev pub proof_list_by : Written → Lent → ProofList
-proof_list_by (w.List len) buffers = with_buffers 0 len buffers
-proof_list_by (w.Refused k) buffers = with_buffers (refusal_number k) 0 buffers
+abbrev pub proof_list_by : Result ℕ Refusal → Lent → ProofList
+proof_list_by (Ok len) buffers = with_buffers 0 len buffers
+proof_list_by (Err k) buffers = with_buffers (refusal_number k) 0 buffers
 
 -- ---- what is written is a list that is accepted, of the elements at the places
 

@@ -1,7 +1,6 @@
 -- Document 02, N6: the size of a proof from the security figures: soundness s, completeness c, set size n and lower bound f.
-use Rattle.std.specs.Prelude.{◌≡◌, ℕ, ◌+◌, ◌*◌, ◌^◌, ◌<◌, ◌≤◌, Bool, true, false, ◌||◌, ◌⊎◌, nat_le, nat_lt}
-use Rattle.centralized_telescope.specs.declared.security.SmallestSize.{SmallestSize}
-use Rattle.centralized_telescope.specs.declared.security.SmallestSize.TheVariants as answer
+use Rattle.std.specs.Prelude.{◌≡◌, ℕ, ◌+◌, ◌*◌, ◌^◌, ◌<◌, ◌≤◌, Bool, true, false, ◌||◌, ◌⊎◌, nat_le, nat_lt, Result, Ok, Err}
+use Rattle.centralized_telescope.specs.declared.errors.Refusal.{Refusal}
 use Rattle.centralized_telescope.specs.core.Refusals.{refusal_number}
 use Rattle.centralized_telescope.specs.core.Params.{max_set_size, max_proof_size, not_one_to}
 
@@ -39,9 +38,9 @@ module _ (s c n f : ℕ) where
       ⊎ (((number ≡ 44) × (u ≡ 0) × (figures_out s c n f ≡ false) × NoSize) ⊎ ((number ≡ 0) × (figures_out s c n f ≡ false) × Smallest u))
 
 -- number and size for each answer
-abbrev pub size_by : SmallestSize → ℕ × ℕ
-size_by (answer.Size u) = (0, u)
-size_by (answer.Refused k) = (refusal_number k, 0)
+abbrev pub size_by : Result ℕ Refusal → ℕ × ℕ
+size_by (Ok u) = (0, u)
+size_by (Err k) = (refusal_number k, 0)
 
 -- ---- beyond 02's words: what holds of the answers to two sets of figures
 

@@ -1,14 +1,13 @@
 -- Document 01, Small-case settings: the settings of the small case, worked out in doubles.
-use Rattle.std.specs.Prelude.{ℕ, ◌+◌, ◌*◌, ◌/◌, ◌%◌, ◌^◌, Bool, false, cond, [], ◌∷◌, pos, ◌==◌, Float}
+use Rattle.std.specs.Prelude.{ℕ, ◌+◌, ◌*◌, ◌/◌, ◌%◌, ◌^◌, Bool, false, cond, [], ◌∷◌, pos, ◌==◌, Float, Result, Ok, Err}
 use Rattle.std.specs.Float.{nan, inf, fin, binary64}
 use Rattle.std.specs.Float.Ieee.{up, down, round, of_int, add, mul, div}
 use Rattle.sampling.specs.core.FirstNumber.{line, first_number}
 use Rattle.sampling.specs.later.Threshold.{outside, halves_of, xOf}
 use Rattle.centralized_telescope.specs.core.Refusals.{refusal_number}
+use Rattle.centralized_telescope.specs.declared.errors.Refusal.{Refusal}
 use Rattle.centralized_telescope.specs.core.Params.{not_one_to, max_proof_size}
 use Rattle.centralized_telescope.specs.declared.params.SmallSettings.{SmallSettings}
-use Rattle.centralized_telescope.specs.declared.params.SmallCase.{SmallCase}
-use Rattle.centralized_telescope.specs.declared.params.SmallCase.TheVariants as small
 
 -- ---- doubles. Each result is rounded: IEEE 754-2019, 5.4.1, to the nearest, ties to even
 
@@ -98,6 +97,6 @@ unfoldable pub small_case : ℕ → Float → ℕ × SmallSettings
 small_case u c = cond (small_case_refusal u c == 0) (0, small_settings u c) (small_case_refusal u c, no_settings)
 
 -- 01's number and the settings for each answer of the small case
-abbrev pub small_case_by : SmallCase → ℕ × SmallSettings
-small_case_by (small.Settings s) = (0, s)
-small_case_by (small.Refused k) = (refusal_number k, no_settings)
+abbrev pub small_case_by : Result SmallSettings Refusal → ℕ × SmallSettings
+small_case_by (Ok s) = (0, s)
+small_case_by (Err k) = (refusal_number k, no_settings)

@@ -1,16 +1,14 @@
 -- Document 02, N1 and N7, a ticket: the number of its blocks, R, S and a proof's elements in the joined bodies of blocks; what the writer
 -- and the reader answer, and every lent buffer afterwards.
-use Rattle.std.specs.Prelude.{◌≡◌, ℕ, zero, suc, ◌+◌, ◌*◌, ◌^◌, ◌<◌, ◌≤◌, Bool, cond, not, ◌&&◌, ◌||◌, ltb, List, [], ◌∷◌, ◌++◌, length, take, drop, ◌==◌, nat_lt, slice_index}
+use Rattle.std.specs.Prelude.{◌≡◌, ℕ, zero, suc, ◌+◌, ◌*◌, ◌^◌, ◌<◌, ◌≤◌, Bool, cond, not, ◌&&◌, ◌||◌, ltb, List, [], ◌∷◌, ◌++◌, length, take, drop, ◌==◌, nat_lt, slice_index, Result, Ok, Err}
 use Rattle.std.proofs.Math.Option.{Option}
 use Rattle.sampling.specs.core.BigEndian.{big_endian, bytes_of}
-use Rattle.centralized_telescope.specs.declared.ticket.TicketBlocks.{TicketBlocks}
-use Rattle.centralized_telescope.specs.declared.ticket.TicketBlocks.TheVariants as blocks_answer
 use Rattle.centralized_telescope.specs.declared.ticket.TicketProof.{TicketProof}
-use Rattle.centralized_telescope.specs.declared.ticket.TicketProof.TheVariants as proof_answer
 use Rattle.centralized_telescope.specs.core.Lists.{Each, some_of, over}
 use Rattle.sampling.specs.core.FirstNumber.{line, first_number}
 use Rattle.centralized_telescope.specs.later.Words.{same_bytes, number_of}
 use Rattle.centralized_telescope.specs.core.Refusals.{refusal_number}
+use Rattle.centralized_telescope.specs.declared.errors.Refusal.{Refusal}
 use Rattle.centralized_telescope.specs.core.Elements.{Element, index_bytes, index_of, elements, list_check, Lent, max_data_bytes}
 use Rattle.centralized_telescope.specs.core.Elements.{max_elements}
 use Rattle.centralized_telescope.specs.later.ProofList.{joined_data, list_of, over_all, buffers_short}
@@ -119,9 +117,9 @@ module _ (R S : ℕ) (lent : Lent) (out : List ℕ) where
         buffer = over (ticket R S (elements lent)) out;
       }) (record { number = ticket_write_refusal; count = 0; buffer = out })
 
-abbrev pub ticket_written_by : TicketBlocks → List ℕ → TicketWritten
-ticket_written_by (blocks_answer.Written n) out = record { number = 0; count = n; buffer = out }
-ticket_written_by (blocks_answer.Refused k) out = record { number = refusal_number k; count = 0; buffer = out }
+abbrev pub ticket_written_by : Result ℕ Refusal → List ℕ → TicketWritten
+ticket_written_by (Ok n) out = record { number = 0; count = n; buffer = out }
+ticket_written_by (Err k) out = record { number = refusal_number k; count = 0; buffer = out }
 
 -- ---- the reader's answer: its number, R, S, how many elements and how many data bytes; and the lent buffers afterwards
 
@@ -161,6 +159,6 @@ module _ (t : List ℕ) (buffers : Lent) where
       (read_out (retry_in (bodies_of t)) (search_in (bodies_of t)) (proof_in (bodies_of t)) buffers)
       (unread ticket_read_refusal buffers)
 
-abbrev pub ticket_read_by : TicketProof → Lent → TicketRead
-ticket_read_by (proof_answer.Read R S count len) buffers = read_of 0 R.0 S.0 count len buffers
-ticket_read_by (proof_answer.Refused k) buffers = unread (refusal_number k) buffers
+abbrev pub ticket_read_by : Result TicketProof Refusal → Lent → TicketRead
+ticket_read_by (Ok r) buffers = read_of 0 r.retry.0 r.search.0 r.elements r.bytes buffers
+ticket_read_by (Err k) buffers = unread (refusal_number k) buffers

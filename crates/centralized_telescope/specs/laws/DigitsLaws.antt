@@ -1,8 +1,7 @@
 -- Laws of whole numbers in digits of 32 bits.
-use Rattle.std.specs.Prelude.{◌≡◌, ℕ, zero, suc, ◌+◌, ◌*◌, ◌/◌, ◌%◌, ◌^◌, ◌<◌, ◌≤◌, Bool, true, false, cond, List, length, replicate, ◌==◌, ◌≢◌, nat_lt, slice_index, slice_set, refl}
-use Rattle.std.proofs.Common.{sym, ap, ◌∙◌, subst, mul_assoc, mul-le-mul_left, pow-suc, lt_of_le_of_lt, add-one, arith, eqb-true, lt-ltb, le-ltb, ltb-true, ltb-false, length-set, get_or-set_same, get_or-set_other}
-use Rattle.std.proofs.Math.Nat.{pow-zero, pow-le-pow_right}
-use Rattle.std.proofs.lemmas.Bool.{eqb-false}
+use Rattle.std.specs.Prelude.{◌≡◌, ℕ, zero, suc, ◌+◌, ◌-◌, ◌*◌, ◌/◌, ◌%◌, ◌^◌, ◌<◌, ◌≤◌, Bool, true, false, List, length, replicate, ◌≢◌, nat_lt, slice_index, slice_set, refl}
+use Rattle.std.proofs.Common.{sym, ap, ◌∙◌, subst, mul_assoc, mul-le-mul_left, pow-suc, lt_of_le_of_lt, add-one, arith, lt-ltb, le-ltb, ltb-true, ltb-false, length-set, get_or-set_same, get_or-set_other}
+use Rattle.std.proofs.Math.Nat.{pow-le-pow_right}
 use Rattle.std.proofs.lemmas.List.{length-replicate, get_or-replicate}
 use Rattle.centralized_telescope.specs.inner.Digits.{stands_for, number_in}
 
@@ -71,11 +70,11 @@ product_whole k before now i carry m e room p = rw (m, ← e) (go carry p)
 
 -- ---- times k, again and again: N times k ^ i
 
-pub no_power : (N k : ℕ) → N ≡ N * k ^ 0
-no_power N k = rw (pow-zero k) (omega arith)
-
 pub power_more : (N k i : ℕ) → N * k ^ i * k ≡ N * k ^ (i + 1)
 power_more N k i = rw (add-one i, pow-suc k i) (mul_assoc N (k ^ i) k)
+
+pub power_up : (N k u : ℕ) → 1 ≤ u → N * k ^ (u - 1) * k ≡ N * k ^ u
+power_up N k u h = let e : u - 1 + 1 ≡ u = omega arith in power_more N k (u - 1) ∙ ap (λ (i : ℕ). N * k ^ i) e
 
 -- where there is room for the last there is room for each
 pub room_for_more : (N k e i room : ℕ) → 1 ≤ k → i < e → N * k ^ e < room → N * k ^ i * k < room
@@ -95,6 +94,7 @@ fits_more i a f d =
     let w : base ^ i * (slice_index a i + 1) ≤ base ^ i * base = mul-le-mul_left (base ^ i) (omega arith) in
     rw (stands_more i a, add-one i, pow-suc base i) (omega arith)
 
+-- the next digits decide, unless they are equal
 module _ (i : ℕ) (a b : List ℕ) where
   abbrev A : ℕ
   A = stands_for i a
@@ -108,14 +108,14 @@ module _ (i : ℕ) (a b : List ℕ) where
   abbrev y : ℕ
   y = slice_index b i
 
-  below_same : x ≡ y → nat_lt (stands_for (i + 1) a) (stands_for (i + 1) b) ≡ nat_lt A B
+  pub below_same : x ≡ y → nat_lt (stands_for (i + 1) a) (stands_for (i + 1) b) ≡ nat_lt A B
   below_same e = rw (stands_more i a, stands_more i b, e) (go (nat_lt A B) refl)
     where
       go : (t : Bool) → nat_lt A B ≡ t → nat_lt (A + base ^ i * y) (B + base ^ i * y) ≡ t
       go true f = lt-ltb (A + base ^ i * y) (B + base ^ i * y) (let l = ltb-true A B f in omega arith)
       go false f = le-ltb (A + base ^ i * y) (B + base ^ i * y) (let l = ltb-false A B f in omega arith)
 
-  below_differ : A < base ^ i → B < base ^ i → (x ≢ y) → nat_lt (stands_for (i + 1) a) (stands_for (i + 1) b) ≡ nat_lt x y
+  pub below_differ : A < base ^ i → B < base ^ i → (x ≢ y) → nat_lt (stands_for (i + 1) a) (stands_for (i + 1) b) ≡ nat_lt x y
   below_differ f g n = rw (stands_more i a, stands_more i b) (go (nat_lt x y) refl)
     where
       go : (t : Bool) → nat_lt x y ≡ t → nat_lt (A + base ^ i * x) (B + base ^ i * y) ≡ t
@@ -128,13 +128,6 @@ module _ (i : ℕ) (a b : List ℕ) where
           let l : y + 1 ≤ x = omega arith in
           let w : base ^ i * (y + 1) ≤ base ^ i * x = mul-le-mul_left (base ^ i) l in
           le-ltb (A + base ^ i * x) (B + base ^ i * y) (omega arith)
-
-  pub below_more : A < base ^ i → B < base ^ i → cond (x == y) (nat_lt A B) (nat_lt x y) ≡ nat_lt (stands_for (i + 1) a) (stands_for (i + 1) b)
-  below_more f g = go (x == y) refl
-    where
-      go : (t : Bool) → (x == y) ≡ t → cond t (nat_lt A B) (nat_lt x y) ≡ nat_lt (stands_for (i + 1) a) (stands_for (i + 1) b)
-      go true e = sym (below_same (eqb-true x y e))
-      go false e = sym (below_differ f g (eqb-false x y e))
 
 -- ---- one digit alone
 

@@ -13,12 +13,10 @@ use Rattle.centralized_telescope.specs.later.Distinct.{Distinct, same_element, n
 -- ---- lists of numbers
 
 pub bytes_same : (xs : List ℕ) → same_bytes xs xs ≡ true
-unfolding same_bytes
 bytes_same [] = refl
 bytes_same (x ∷ xs) = rw (eq-eqb x x refl) (bytes_same xs)
 
 pub same_bytes_lem : (xs ys : List ℕ) → same_bytes xs ys ≡ true → xs ≡ ys
-unfolding same_bytes
 same_bytes_lem [] [] e = refl
 same_bytes_lem [] (y ∷ ys) e = absurd (not_both e refl)
 same_bytes_lem (x ∷ xs) [] e = absurd (not_both e refl)

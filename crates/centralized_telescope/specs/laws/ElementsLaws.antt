@@ -1,17 +1,16 @@
 -- Laws of accepted lists. A caller that cites these opens none of the definitions.
 use Rattle.std.specs.Prelude.{◌≡◌, ℕ, zero, suc, ◌-◌, ◌<◌, ◌≤◌, Bool, true, false, not, ◌⊎◌, List, [], ◌∷◌, length, take, drop, ◌==◌, ◌≢◌, nat_lt, slice_index, slice_index_or, refl}
-use Rattle.std.proofs.Common.{sym, ap, ◌∙◌, inl, inr, arith, eqb-true, ltb-false, get_or-take}
+use Rattle.std.proofs.Common.{sym, ap, inl, inr, arith, eqb-true, ltb-false, get_or-take}
 use Rattle.std.proofs.Math.Option.{Option, none, some}
 use Rattle.std.proofs.lemmas.Bool.{not-false}
 use Rattle.std.proofs.Math.ListN.{length-take}
 use Rattle.sampling.specs.core.FirstNumber.{line, first_number}
-use Rattle.sampling.specs.laws.BigEndianLaws.{length_bytes_of}
 use Rattle.centralized_telescope.specs.laws.TestLaws.{neither}
-use Rattle.centralized_telescope.specs.core.Elements.{Element, index_bytes, index_of, elements_from, elements, element_at, mark_over}
+use Rattle.centralized_telescope.specs.core.Elements.{Element, index_of, elements_from, elements, element_at, mark_over}
 use Rattle.centralized_telescope.specs.core.Elements.{end_wrong, malformed, data_long, too_large, list_check, Lent, max_data_bytes}
 use Rattle.centralized_telescope.specs.core.Elements.{max_elements}
 use Rattle.centralized_telescope.specs.later.Words.{mark_of, number_of}
-use Rattle.centralized_telescope.specs.inner.ListReading.{start_at, data_at, index_at, element_of}
+use Rattle.centralized_telescope.specs.inner.ListReading.{start_at, data_at, index_at}
 
 -- ---- what the check of a list says of the whole of it
 
@@ -116,10 +115,6 @@ pub index_again : (o : Option ℕ) → index_of (mark_of o) (number_of o) ≡ o
 index_again none = refl
 index_again (some n) = refl
 
-pub index_short : (o : Option ℕ) → length (index_bytes o) ≤ 8
-index_short none = omega arith
-index_short (some v) = omega (arith, length_bytes_of 8 v)
-
 -- each element but the first starts at the end before it
 pub start_later : (n : List ℕ) (i : ℕ) → (i ≢ 0) → start_at n i ≡ slice_index n (i - 1)
 unfolding start_at
@@ -154,7 +149,7 @@ module _ (lent : Lent) (A : list_check lent ≡ 0) where
   length_elements = length_from 0 d n m x same_marks same_indexes
 
   module _ (i : ℕ) (h : i < length n) where
-    pub size_within : slice_index_or n i 0 - start_at n i ≤ max_data_bytes
+    size_within : slice_index_or n i 0 - start_at n i ≤ max_data_bytes
     unfolding start_at
     size_within = size_at 0 n i h (accepted lent A).short
 
@@ -166,23 +161,12 @@ module _ (lent : Lent) (A : list_check lent ≡ 0) where
     pub data_there : (element_at (elements lent) i).bytes ≡ data_at d n i
     data_there = ap (λ (e : Element). e.bytes) element_there
 
-    pub index_there : (element_at (elements lent) i).index ≡ index_at m x i
-    index_there = ap (λ (e : Element). e.index) element_there
-
-    -- and by its parts, as `index_of` reads them
-    pub read_there : (own : List ℕ) (k v : ℕ) → own ≡ data_at d n i → (k ≡ mark_of (index_at m x i)) × (v ≡ number_of (index_at m x i))
-        → element_of own k v ≡ element_at (elements lent) i
-    read_there own k v o e = same_parts o (rw (e.0, e.1) (index_again (index_at m x i))) ∙ sym element_there
-
     pub place_within : (i < length m) × (i < length x)
     place_within = (omega (arith, same_marks), omega (arith, same_indexes))
 
     pub data_short : length (data_at d n i) ≤ max_data_bytes
     unfolding data_at
     data_short = simp length-take (omega (arith, size_within))
-
-    pub own_short : (own : List ℕ) → own ≡ data_at d n i → length own ≤ max_data_bytes
-    own_short own o = rw o data_short
 
     pub bytes_short : length (element_at (elements lent) i).bytes ≤ max_data_bytes
     bytes_short = rw data_there data_short

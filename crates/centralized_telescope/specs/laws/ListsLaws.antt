@@ -1,8 +1,9 @@
 -- Laws of the words of Lists, and of lists.
-use Rattle.std.specs.Prelude.{◌≡◌, ℕ, zero, suc, ◌+◌, ◌-◌, ◌<◌, ◌≤◌, Bool, true, false, cond, T, ◌⊎◌, List, [], ◌∷◌, ◌++◌, map, length, take, drop, ◌≢◌, slice_index, slice_index_or, slice_set}
+use Rattle.std.specs.Prelude.{◌≡◌, ℕ, zero, suc, ◌+◌, ◌-◌, ◌<◌, ◌≤◌, Bool, true, false, cond, ◌||◌, T, ◌⊎◌, List, [], ◌∷◌, ◌++◌, map, length, take, drop, ◌≢◌, slice_index, slice_index_or, slice_set}
 use Rattle.std.proofs.Math.Path.{refl, sym, ap, subst}
-use Rattle.std.proofs.Common.{◌∙◌, suc-add, add-one, length-append, take-append-drop, drop_of_length-le, take_at, take-take, take-suc, drop-drop, drop-set-lt, length-take-le}
+use Rattle.std.proofs.Common.{◌∙◌, suc-add, add-one, length-append, take-append-drop, take_at, take-take, take-suc, drop-drop, drop-set-lt}
 use Rattle.std.proofs.Math.Logic.{inl, inr, ⊎_elim}
+use Rattle.std.specs.List.{list_any}
 use mathlib.Core.List.Memᴰ
 use mathlib.Core.List.{append_assoc, map-append, Memᴰ}
 use Rattle.std.proofs.Math.Option.{none, some}
@@ -70,12 +71,6 @@ pub store_behind : (xs buffer : List ℕ) (k v : ℕ) → length xs ≡ k → k 
 store_behind xs buffer k v e h =
     rw (drop-cons buffer k 0 h, set_at xs (slice_index buffer k) (drop (suc k) buffer) v k e, add-one, append_assoc xs)
 
--- of a list that is copied
-pub copy_more : (p d : List ℕ) (i : ℕ) → i < length d → i < length p
-    → slice_set (take i p ++ drop i d) i (slice_index p i) ≡ take (i + 1) p ++ drop (i + 1) d
-copy_more p d i hd hp =
-    store_behind (take i p) d i (slice_index p i) (length-take-le i p (omega arith)) hd ∙ rw (add-one i, take-suc p i 0 hp)
-
 pub over_set : (k v : ℕ) (xs buffer : List ℕ) → length xs ≡ k → k < length buffer → slice_set (over xs buffer) k v ≡ over (xs ++ (v ∷ [])) buffer
 over_set k v xs buffer e h = rw (length-append xs (v ∷ []), e) (store_behind xs buffer k v e h)
 
@@ -100,21 +95,14 @@ pub each_rest : {A : Type 0} (P : A → Type 0) (x : A) (xs : List A) → Each P
 unfolding Each
 each_rest P x xs e = e.1
 
--- ---- one for which a test says yes, looked for from the front: what a place settles, and what it leaves to the places behind it
+-- ---- one for which a test says yes
 
 module _ {A : Type 0} (test : A → Bool) where
-  pub some_done : (xs : List A) (i : ℕ) → length xs ≤ i → some_of test (drop i xs) ≡ false
+  -- the library's word says the same
+  pub any_some : (xs : List A) → list_any test xs ≡ some_of test xs
   unfolding some_of
-  some_done xs i h = rw (drop_of_length-le xs {i = i} h)
-
-  module _ (xs : List A) (i : ℕ) (a : A) (h : i < length xs) where
-    pub some_here : test (slice_index_or xs i a) ≡ true → some_of test (drop i xs) ≡ true
-    unfolding some_of
-    some_here t = rw (drop-cons xs i a h, t)
-
-    pub some_behind : test (slice_index_or xs i a) ≡ false → some_of test (drop i xs) ≡ some_of test (drop (i + 1) xs)
-    unfolding some_of
-    some_behind t = rw (add-one, drop-cons xs i a h, t)
+  any_some [] = refl
+  any_some (x ∷ xs) = ap (λ b. test x || b) (any_some xs)
 
   pub none_at : (xs : List A) (i : ℕ) (a : A) → i < length xs → some_of test xs ≡ false → test (slice_index_or xs i a) ≡ false
   unfolding some_of

@@ -74,3 +74,6 @@ module _ (p : Params) where
       go true s l L = never (omega arith) (set_size_refused s)
       go false s true L = never (omega arith) (limit_refused s L)
       go false s false L = record { set_size = one_to s; limits = limits_kept L }
+
+-- the check by its tests
+pub ruleset check_told = (set_size_refused, limit_refused, none_refused)

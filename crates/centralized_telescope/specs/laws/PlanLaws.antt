@@ -1,7 +1,7 @@
 -- Laws of planning: the answer by the lines of the table, and how many bytes a proof's ticket holds.
-use Rattle.std.specs.Prelude.{◌≡◌, ℕ, ◌+◌, ◌*◌, ◌<◌, ◌≤◌, Bool, true, false, cond, List, [], ◌∷◌, length, ◌==◌, nat_lt}
+use Rattle.std.specs.Prelude.{◌≡◌, ℕ, ◌+◌, ◌*◌, ◌^◌, ◌<◌, ◌≤◌, Bool, true, false, cond, List, [], ◌∷◌, length, ◌==◌, nat_lt}
 use Rattle.std.proofs.Math.Path.{refl, ap}
-use Rattle.std.proofs.Common.{sym, ◌∙◌}
+use Rattle.std.proofs.Common.{sym, ◌∙◌, mul-le-mul}
 use native.Mathlib.Omega.{arith}
 use borrow.Author.Tests.{eq-eqb, ne_eqb, eqb-true, lt-ltb, le-ltb, ltb-false}
 use Rattle.std.proofs.Math.ListN.{length-append}
@@ -10,6 +10,7 @@ use Rattle.centralized_telescope.specs.declared.errors.Refusal.TheVariants as re
 use Rattle.centralized_telescope.specs.declared.params.Params.{Params}
 use Rattle.centralized_telescope.specs.declared.planning.Amounts.{Amounts}
 use Rattle.centralized_telescope.specs.laws.TestLaws.{unsaid}
+use Rattle.centralized_telescope.specs.laws.ParamsLaws.{lawful}
 use Rattle.sampling.specs.core.FirstNumber.{line}
 use Rattle.sampling.specs.laws.FirstNumberLaws.{number_passed, number_met, number_last, second_met, number_none}
 use Rattle.centralized_telescope.specs.laws.RefusalsLaws.{refusal_number_lem}
@@ -76,6 +77,24 @@ module _ (p : Params) (longest : ℕ) where
       let short = ltb-false max_data_bytes longest (unsaid (nat_lt max_data_bytes longest) 4 l.0) in
       record { settings = s.0; short = short; same = ap (λ (r : ℕ × Amounts). r.1) (sym e ∙ amounts_given s.0 short) }
 
+-- ---- none of the amounts of lawful settings is too great for 64 bits
+
+module _ (p : Params) (P : checked p ≡ 0) where
+  pub content_fits : (longest : ℕ) → longest ≤ max_data_bytes → p.proof_size * (max_head_bytes + longest) < 2 ^ 63
+  content_fits longest h =
+      let most : max_head_bytes + longest ≤ 4109 = omega arith in
+      let size : p.proof_size * (max_head_bytes + longest) ≤ 1024 * 4109 = mul-le-mul (lawful p P).limits.proof_size most in
+      omega arith
+
+  pub table_fits : p.set_size < 2 ^ 32
+  table_fits = omega (arith, (lawful p P).set_size)
+
+  pub steps_fit : p.max_retries * p.dfs_bound < 2 ^ 64
+  steps_fit =
+      let steps : p.max_retries * p.dfs_bound ≤ 65535 * 2 ^ 48
+      = mul-le-mul (lawful p P).limits.max_retries_kept (lawful p P).limits.dfs_bound_kept in
+      omega arith
+
 -- ---- how many bytes a ticket holds
 
 module _ (longest : ℕ) where
@@ -93,3 +112,9 @@ module _ (longest : ℕ) where
   pub content_exact : (R S : ℕ) (es : List Element) → Each (λ (e : Element). (length e.bytes ≡ longest) × (mark_of e.index ≡ 1)) es
       → length (content R S es) ≡ ticket_head_bytes + length es * (max_head_bytes + longest)
   content_exact R S es h = omega (arith, content_length R S es, elements_exact es h)
+
+-- none of the amounts is too great
+pub ruleset amounts_fit = (content_fits, table_fits, steps_fit)
+
+-- the answer by the lines of the table
+pub ruleset plan_told = (settings_refused, length_refused, amounts_given)

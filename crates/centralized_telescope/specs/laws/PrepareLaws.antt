@@ -1,13 +1,13 @@
 -- Laws of the bytes that a run stands for: how many there are, and that they tell runs apart.
-use Rattle.std.specs.Prelude.{◌≡◌, ℕ, zero, suc, ◌+◌, ◌-◌, ◌*◌, ◌/◌, ◌%◌, ◌^◌, ◌<◌, ◌≤◌, false, List, [], ◌∷◌, ◌++◌, length, drop, nat_lt, refl}
-use Rattle.std.proofs.Common.{sym, ap, ◌∙◌, append_assoc, append-nil, add-zero, add-suc, mul_assoc, pow-suc, arith, le-leb, ltb-false, length-append, length-take, drop_at}
+use Rattle.std.specs.Prelude.{◌≡◌, ℕ, zero, suc, ◌+◌, ◌-◌, ◌*◌, ◌/◌, ◌%◌, ◌^◌, ◌<◌, ◌≤◌, false, List, [], ◌∷◌, ◌++◌, length, drop, Result, Ok, nat_lt, refl}
+use Rattle.std.proofs.Common.{sym, ap, ◌∙◌, append_assoc, append-nil, add-zero, add-suc, mul_assoc, pow-suc, arith, ltb-false, length-append, length-take, drop_at}
 use Rattle.sampling.specs.core.BigEndian.{big_endian, bytes_of}
-use Rattle.sampling.specs.core.Fips180.{sha256}
-use Rattle.sampling.specs.core.Hash.{max_hashed, hashed, hashed_by}
-use Rattle.sampling.specs.declared.sha256.Hashed.{Hashed}
+use Rattle.sampling.specs.core.Hash.{max_hashed, hashed_by}
+use Rattle.sampling.specs.declared.sha256.TooLong.{TooLong}
 use Rattle.sampling.specs.declared.sha256.Hasher.{Hasher}
 use Rattle.sampling.specs.later.Hasher.{new_hasher, absorbed, finished}
 use Rattle.sampling.specs.laws.BigEndianLaws.{length_bytes_of}
+use Rattle.sampling.specs.laws.HashLaws.{digest_within}
 use Rattle.sampling.specs.laws.HasherLaws.{absorbed_twice, absorbed_hashes}
 use Rattle.centralized_telescope.specs.declared.params.Params.{Params}
 use Rattle.centralized_telescope.specs.core.Lists.{Each}
@@ -87,13 +87,12 @@ run_few p lent A =
 
 -- ---- their hash
 
-pub digest_given : (p : Params) (lent : Lent) → list_check lent ≡ 0 → (h : Hasher) (r : Hashed)
-    → h ≡ absorbed new_hasher (run_bytes p (elements lent)) → hashed_by r ≡ finished h → r.digest ≡ run_digest p (elements lent)
-unfolding hashed run_digest
+pub digest_given : (p : Params) (lent : Lent) → list_check lent ≡ 0 → (h : Hasher) (r : Result (List ℕ) TooLong)
+    → h ≡ absorbed new_hasher (run_bytes p (elements lent)) → hashed_by r ≡ finished h → r ≡ Ok (run_digest p (elements lent))
+unfolding run_digest
 digest_given p lent A h r H R =
     let m : List ℕ = run_bytes p (elements lent) in
-    let within : hashed m ≡ (0, sha256 m) = rw (le-leb (length m) max_hashed (run_few p lent A)) in
-    ap (λ (answer : ℕ × List ℕ). answer.1) (R ∙ ap finished H ∙ absorbed_hashes m ∙ within)
+    digest_within r m (run_few p lent A) (R ∙ ap finished H ∙ absorbed_hashes m)
 
 -- ---- the head, absorbed number by number
 

@@ -10,14 +10,13 @@ use Rattle.centralized_telescope.specs.laws.TestLaws.{neither, unsaid}
 use Rattle.centralized_telescope.specs.core.Elements.{Element, elements_from, elements, element_at, mark_over, end_wrong, malformed}
 use Rattle.centralized_telescope.specs.core.Elements.{data_long, too_large, list_check, Lent, max_data_bytes, max_elements}
 use Rattle.centralized_telescope.specs.later.Words.{mark_of, number_of}
-use Rattle.centralized_telescope.specs.laws.ElementsLaws.{index_again, data_there, bytes_short}
+use Rattle.centralized_telescope.specs.laws.ElementsLaws.{index_again, bytes_short}
 use Rattle.centralized_telescope.specs.core.Lists.{Each, some_of}
 use Rattle.centralized_telescope.specs.laws.ListsLaws.{take_over, none_at, each_nil, each_cons}
 use Rattle.sampling.specs.laws.FirstNumberLaws.{number_none}
 use Rattle.centralized_telescope.specs.later.ProofList.{joined_data, ends_from, marks_of, indexes_of, chosen, place_out, ProofList}
 use Rattle.centralized_telescope.specs.later.ProofList.{list_over, ProofListed}
 use Rattle.centralized_telescope.specs.later.ProofList.{write_refusal, proof_list, list_of, over_all, front_of, with_buffers}
-use Rattle.centralized_telescope.specs.inner.ListReading.{data_of}
 
 -- ---- a list written out is accepted
 
@@ -111,13 +110,6 @@ module _ (lent : Lent) (A : list_check lent ≡ 0) where
   chosen_short (place ∷ places) e =
       let p = place_head (length n) place e in
       each_cons Short (element_at (elements lent) place) (chosen places lent) (bytes_short lent A place p.0) (chosen_short places p.1)
-
-  pub data_joined : (places : List ℕ) → place_out (length n) places ≡ false → data_of d n places ≡ joined_data (chosen places lent)
-  unfolding some_of data_of joined_data
-  data_joined [] e = refl
-  data_joined (place ∷ places) e =
-      let p = place_head (length n) place e in
-      rw (data_there lent A place p.0, data_joined places p.1)
 
 -- ---- elements over buffers, and what the buffers begin with then
 

@@ -1,14 +1,15 @@
 -- Laws of the proof size: the ranges, the numbers compared, and how the inequality goes with each figure.
-use Rattle.std.specs.Prelude.{◌≡◌, ℕ, zero, suc, ◌+◌, ◌*◌, ◌^◌, ◌<◌, ◌≤◌, true, false, ltb, ◌≢◌, nat_lt, refl}
-use Rattle.std.proofs.Common.{sym, ap, ◌∙◌, inl, inr, mul_comm, mul-le-mul, mul-le-mul_left, mul-le-mul_right, le_trans, lt_of_le_of_lt, eq-or-lt_of_le, pow-suc, add-one, arith, ltb-true, ltb-false, leb-false, lit<}
+use Rattle.std.specs.Prelude.{◌≡◌, ℕ, zero, suc, ◌+◌, ◌*◌, ◌^◌, ◌<◌, ◌≤◌, true, false, nat_lt, refl, Option, Some, None, ok_or}
+use Rattle.std.proofs.Common.{sym, ap, ◌∙◌, inl, inr, mul_comm, mul-le-mul, mul-le-mul_left, mul-le-mul_right, le_trans, lt_of_le_of_lt, eq-or-lt_of_le, pow-suc, arith, ltb-true, ltb-false, leb-false, lit<}
 use Rattle.std.proofs.Math.Path.{subst}
 use Rattle.std.proofs.Math.Nat.{pow-le-pow_left, pow-le-pow_right}
+use Rattle.centralized_telescope.specs.declared.errors.Refusal.TheVariants as refusal
 use Rattle.centralized_telescope.specs.core.Params.{not_one_to, max_set_size, max_proof_size}
 use Rattle.centralized_telescope.specs.laws.TestLaws.{neither, lt_or_le, not_both}
 use Rattle.centralized_telescope.specs.laws.ParamsLaws.{one_to}
-use Rattle.centralized_telescope.specs.later.ProofSize.{Meets, figures_out, Smallest, NoSize, SizeIs, InRange, NoLess, SizeNeverFalls}
+use Rattle.centralized_telescope.specs.later.ProofSize.{Meets, figures_out, Smallest, NoSize, SizeIs, size_by, InRange, NoLess, SizeNeverFalls}
 use Rattle.centralized_telescope.specs.later.ProofSize.{SizeNeverRises, SizeOneAnswer, max_soundness, max_figure}
-use Rattle.centralized_telescope.specs.laws.DigitsLaws.{base, power_more}
+use Rattle.centralized_telescope.specs.laws.DigitsLaws.{base}
 use Rattle.centralized_telescope.specs.inner.Digits.{NotAbove, SmallestOrNone}
 
 -- all that figures in range keep
@@ -59,28 +60,22 @@ module _ (s c n f u : ℕ) where
 -- ---- the search for the smallest: L and R are the two numbers at u + 1
 
 module _ (A n B f u : ℕ) where
-  module _ (L R : ℕ) (l : L ≡ A * n ^ u * n) (r : R ≡ B * f ^ u * f) where
-    at_next : (R ≤ L → NotAbove A n B f (u + 1)) × (NotAbove A n B f (u + 1) → R ≤ L)
-    at_next =
-        let a = l ∙ power_more A n u in
-        let b = r ∙ power_more B f u in
-        ((λ h. rw (← a, ← b) h), (λ h. rw (a, b) h))
-
-    pub found_here : u < max_proof_size → nat_lt L R ≡ false → ((v : ℕ) → 1 ≤ v → v ≤ u → NotAbove A n B f v → ⊥)
-        → SmallestOrNone A n B f (u + 1)
+  module _ (L R : ℕ) (l : L ≡ A * n ^ u) (r : R ≡ B * f ^ u) (none : (v : ℕ) → 1 ≤ v → v < u → NotAbove A n B f v → ⊥) where
+    pub found_here : 1 ≤ u → u ≤ max_proof_size → nat_lt L R ≡ false → SmallestOrNone A n B f (Some u)
     unfolding SmallestOrNone
-    found_here h t none =
-        let m = at_next.0 (ltb-false L R t) in
-        subst (SmallestOrNone A n B f) (sym (add-one u)) (h, subst (NotAbove A n B f) (add-one u) m, λ v a b. none v a (omega arith))
+    found_here a b t = (a, b, (let h = ltb-false L R t in rw (← l, ← r) h), none)
 
-    pub none_here : ltb L R ≡ true → ((v : ℕ) → 1 ≤ v → v ≤ u → NotAbove A n B f v → ⊥)
-        → (v : ℕ) → 1 ≤ v → v ≤ u + 1 → NotAbove A n B f v → ⊥
-    none_here t none v a b m = elim (eq-or-lt_of_le b) [
-      | inl e ↦ let below = ltb-true L R t in let least = at_next.1 (subst (NotAbove A n B f) e m) in omega arith
-      | inr g ↦ none v a (omega arith) m
+    pub none_here : nat_lt L R ≡ true → (v : ℕ) → 1 ≤ v → v < u + 1 → NotAbove A n B f v → ⊥
+    none_here t v a b m = elim (let h : v ≤ u = omega arith in eq-or-lt_of_le h) [
+      | inl e ↦
+          let below = ltb-true L R t in
+          let least : NotAbove A n B f u = subst (NotAbove A n B f) e m in
+          let same : R ≤ L = rw (l, r) least in
+          omega arith
+      | inr g ↦ none v a g m
     ]
 
-  pub none_at_all : max_proof_size ≤ u → ((v : ℕ) → 1 ≤ v → v ≤ u → NotAbove A n B f v → ⊥) → SmallestOrNone A n B f 0
+  pub none_at_all : max_proof_size < u → ((v : ℕ) → 1 ≤ v → v < u → NotAbove A n B f v → ⊥) → SmallestOrNone A n B f None
   unfolding SmallestOrNone
   none_at_all h none v a b = none v a (omega arith)
 
@@ -107,19 +102,30 @@ module _ (s c : ℕ) (hs : s ≤ max_soundness) (hc : c ≤ max_figure) where
 -- ---- the search's answer is the size's
 
 module _ (s c n f : ℕ) where
-  pub no_size : SmallestOrNone 1442695 n (1000000 * (32 * c) * 2 ^ s) f 0 → NoSize s c n f
+  no_size : SmallestOrNone 1442695 n (1000000 * (32 * c) * 2 ^ s) f None → NoSize s c n f
   unfolding SmallestOrNone
   no_size h v a b m = h v a b (so_meets s c n f v m)
 
-  pub size_found : (u : ℕ) → (u ≢ 0) → SmallestOrNone 1442695 n (1000000 * (32 * c) * 2 ^ s) f u → Smallest s c n f u
+  size_found : (u : ℕ) → SmallestOrNone 1442695 n (1000000 * (32 * c) * 2 ^ s) f (Some u) → Smallest s c n f u
   unfolding SmallestOrNone
-  size_found zero z h = absurd (z refl)
-  size_found (suc u) z h = record {
-    from = omega arith;
-    upto = h.0;
-    meets = meets_so s c n f (suc u) h.1;
-    none_below = λ v a b m. h.2 v a b (so_meets s c n f v m);
+  size_found u h = record {
+    from = h.0;
+    upto = h.1;
+    meets = meets_so s c n f u h.2;
+    none_below = λ v a b m. h.3 v a b (so_meets s c n f v m);
   }
+
+  -- A and B being the two numbers, what it found is answered, or that there is no size
+  pub size_told : figures_out s c n f ≡ false → (A B : ℕ) → A ≡ 1442695 → B ≡ 1000000 * (32 * c) * 2 ^ s → (r : Option ℕ)
+      → SmallestOrNone A n B f r
+      → (let a = size_by (ok_or r refusal.NoSize) in SizeIs s c n f a.0 a.1)
+  size_told o A B p q r h =
+      go r (subst (λ (m : ℕ). SmallestOrNone m n (1000000 * (32 * c) * 2 ^ s) f r) p (subst (λ (m : ℕ). SmallestOrNone A n m f r) q h))
+    where
+      go : (r : Option ℕ) → SmallestOrNone 1442695 n (1000000 * (32 * c) * 2 ^ s) f r
+          → (let a = size_by (ok_or r refusal.NoSize) in SizeIs s c n f a.0 a.1)
+      go None m = inr (inl (refl, refl, o, no_size m))
+      go (Some u) m = inr (inr (refl, o, size_found u m))
 
 -- ---- how the inequality goes with each figure
 

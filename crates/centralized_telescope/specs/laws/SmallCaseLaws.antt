@@ -166,3 +166,6 @@ module _ (n u : ℕ) (c : Float) (p : proof_size_out u ≡ false) (o : completen
 
   pub small_case_lawful : set_size_out n ≡ false → checked (with_set_size n (small_settings u c)) ≡ 0
   small_case_lawful s = passes (with_set_size n (small_settings u c)) s keeps_limits
+
+-- the small case by its tests
+pub ruleset small_case_told = (proof_size_refused, completeness_refused, settings_given)

@@ -29,12 +29,6 @@ index_size zero v h = refl
 index_size (suc zero) v h = length_bytes_of 8 v
 index_size (suc (suc m)) v h = absurd (omega arith)
 
-index_number : (m : ℕ) (r : List ℕ) → m ≤ 1 → number_of (index_of m (big_endian 8 r)) ≡ big_endian (8 * m) r
-unfolding big_endian
-index_number zero r h = refl
-index_number (suc zero) r h = refl
-index_number (suc (suc m)) r h = absurd (omega arith)
-
 index_again : (m : ℕ) (r : List ℕ) → Bytes r → m ≤ 1 → 8 * m ≤ length r → index_bytes (index_of m (big_endian 8 r)) ≡ take (8 * m) r
 index_again zero r B h l = refl
 index_again (suc zero) r B h l = bytes_again 8 r B l
@@ -46,8 +40,7 @@ pub record ElementLaid (s : List ℕ) : Type 0 where
   pub size : length (element_bytes (element_in s)) ≡ head_size s + size_in s
   pub own : (element_in s).bytes ≡ take (size_in s) (drop (head_size s) s)
   pub own_size : length (element_in s).bytes ≡ size_in s
-  pub mark : mark_of (element_in s).index ≡ mark_in s
-  pub number : number_of (element_in s).index ≡ big_endian (8 * mark_in s) (drop 1 s)
+  pub index : (element_in s).index ≡ index_of (mark_in s) (big_endian 8 (drop 1 s))
   pub short : size_in s ≤ max_data_bytes
   pub within : head_size s + size_in s ≤ length s
   pub marked : mark_in s ≤ 1
@@ -84,8 +77,7 @@ element_laid s e =
       size = size;
       own = own;
       own_size = own_size;
-      mark = rw (index_part s) (index_mark (mark_in s) (big_endian 8 (drop 1 s)) marked);
-      number = rw (index_part s) (index_number (mark_in s) (drop 1 s) marked);
+      index = index_part s;
       short = leb-true (size_in s) max_data_bytes z.0;
       within = within;
       marked = marked;

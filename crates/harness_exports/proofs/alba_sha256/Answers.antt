@@ -1,25 +1,22 @@
 -- `alba_sha256`: refused by the length lent, or the answer of `sha256` copied.
-use mathlib.Core.Path.{◌≡◌}
 use mathlib.Core.List.{◌++◌}
-use native.Mathlib.Omega.{arith}
-use borrow.Author.Rules.{rules}
-use lib.ListN.{length}
+use Rattle.std.proofs.Common.{◌≡◌, ◌∙◌, arith}
+use Rattle.sampling.specs.core.Hash.{hashed}
 use Rattle.harness_exports.proofs.Answer.{refused, served}
 use Rattle.harness_exports.proofs.alba_sha256.Goals as goal
+use Rattle.harness_exports.proofs.alba_sha256.Goals.{in-Ok, in-Err}
 
 pub returns-then-out-ne32 : goal.returns-then-out-ne32
 returns-then-out-ne32 c =
     let z = c.args in
     refused (z.a.now ++ (z.b.now ++ (z.c.now ++ z.d.now))) z.out.now c.if-out-ne32.true
 
-pub copy_from_slice-requires : goal.copy_from_slice-requires
-copy_from_slice-requires c =
-    let l : length c.sha256-hashed.result.digest ≡ 32 = search rules in
-    omega arith
-
 pub returns : goal.returns
 returns c =
-    let h = c.sha256-hashed in
     let z = c.args in
-    served (z.a.now ++ (z.b.now ++ (z.c.now ++ z.d.now))) z.out.now _ h.result.digest h.result.number
-    (omega arith) h.ensures c.copy_from_slice.ensures.after
+    let m = z.a.now ++ (z.b.now ++ (z.c.now ++ z.d.now)) in
+    let hash : c.match-sha256.number ≡ hashed m = elim c.match-sha256.branch [
+      | in-Ok w ↦ w.number-is ∙ w.in-Ok.ensures
+      | in-Err w ↦ w.number-is ∙ rw w.from.ensures w.in-Err.ensures
+    ] in
+    served m z.out.now _ _ _ (omega arith) hash c.copy_from_slice.ensures.after

@@ -14,19 +14,17 @@ returns-then-out-ne6 c =
     let z = c.args in
     not_six z.u z.c z.out.now c.if-out-ne6.true
 
-pub returns-in-Settings : goal.returns-in-Settings
-returns-in-Settings c =
-    let at_param_small_case = c in
-    let z = at_param_small_case.args in
-    answered z.u z.c z.out.now 0 c.in-Settings.s _ (search rules)
-    (sym (ap small_case_by c.in-Settings.is) ∙ at_param_small_case.param_small_case-answer.ensures)
+pub returns-in-Ok : goal.returns-in-Ok
+returns-in-Ok c =
+    let z = c.args in
+    answered z.u z.c z.out.now 0 c.in-Ok.settings _ (search rules)
+    (sym (ap small_case_by c.in-Ok.is) ∙ c.param_small_case.ensures)
     (ap (λ (l : List ℕ). (0, l)) c.put_settings.ensures)
 
-pub returns-in-Refused : goal.returns-in-Refused
-returns-in-Refused c =
+pub returns-in-Err : goal.returns-in-Err
+returns-in-Err c =
     let z = c.args in
-    let k = c.in-Refused.k in
+    let k = c.in-Err.k in
     answered z.u z.c z.out.now (refusal_number k) no_settings _ (search rules)
-    (sym (ap small_case_by c.in-Refused.is) ∙ c.param_small_case-answer.ensures)
-    (ap (λ (n : ℕ). (n, z.out.now)) c.refusal_number.ensures
-    ∙ not_settled (refusal_number k) no_settings z.out.now (refusal_number_lem k))
+    (sym (ap small_case_by c.in-Err.is) ∙ c.param_small_case.ensures)
+    (ap (λ (n : ℕ). (n, z.out.now)) c.refusal_number.ensures ∙ not_settled (refusal_number k) no_settings z.out.now (refusal_number_lem k))

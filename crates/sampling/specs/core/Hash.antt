@@ -1,7 +1,7 @@
 -- Document 01, Hash: SHA-256 of joined strings, and the limit on their length in all.
-use Rattle.std.specs.Prelude.{ℕ, ◌^◌, cond, List, length, replicate, nat_le}
+use Rattle.std.specs.Prelude.{ℕ, ◌^◌, cond, List, length, replicate, Result, Ok, Err, nat_le}
 use Rattle.sampling.specs.core.Fips180.{sha256}
-use Rattle.sampling.specs.declared.sha256.Hashed.{Hashed}
+use Rattle.sampling.specs.declared.sha256.TooLong.{TooLong}
 
 -- 01, Hash, the limit: so many bytes at most
 abbrev pub max_hashed : ℕ
@@ -11,6 +11,7 @@ max_hashed = 2 ^ 29
 unfoldable pub hashed : List ℕ → ℕ × List ℕ
 hashed m = cond (nat_le (length m) max_hashed) (0, sha256 m) (9, replicate 32 0)
 
--- an answer's number and digest
-abbrev pub hashed_by : Hashed → ℕ × List ℕ
-hashed_by r = (r.number, r.digest)
+-- 01's number and digest for each answer of the hash
+abbrev pub hashed_by : Result (List ℕ) TooLong → ℕ × List ℕ
+hashed_by (Ok digest) = (0, digest)
+hashed_by (Err e) = (9, replicate 32 0)

@@ -1,9 +1,8 @@
 -- The sampler of document 01, in its order: what the contracts of `sample` cite.
-use Rattle.std.specs.Prelude.{ℕ, zero, suc, ◌+◌, ◌-◌, ◌*◌, ◌/◌, ◌%◌, ◌^◌, Bool, false, cond, ◌||◌, List, ◌==◌, nat_le, nat_lt}
+use Rattle.std.specs.Prelude.{ℕ, zero, suc, ◌+◌, ◌-◌, ◌*◌, ◌/◌, ◌%◌, ◌^◌, Bool, false, cond, ◌||◌, List, Option, Some, None, Result, Ok, Err, ◌==◌, nat_le, nat_lt}
 use Rattle.sampling.specs.core.BigEndian.{big_endian}
 use Rattle.sampling.specs.declared.sample.U128.{U128}
-use Rattle.sampling.specs.declared.sample.Draw.{Draw}
-use Rattle.sampling.specs.declared.sample.Draw.TheVariants as draw
+use Rattle.sampling.specs.declared.sample.EmptyRange.{EmptyRange}
 
 -- 01, Sampler, powers of two: n is one of 2 ^ 0, .. 2 ^ (k - 1)
 unfoldable pub is_power : ℕ → ℕ → Bool
@@ -22,11 +21,15 @@ mod_not_power i n = cond (nat_le (D n * n) i) (1, 0) (0, i % n)
 unfoldable pub uniform : List ℕ → ℕ → ℕ × ℕ
 uniform h n = cond (n == 0) (7, 0) (cond (is_power 64 n) (0, big_endian 8 h % n) (mod_not_power (big_endian 16 h) n))
 
+-- 01's number and value for a draw from some numbers: a value, or none
+abbrev pub draw_by : Option ℕ → ℕ × ℕ
+draw_by (Some v) = (0, v)
+draw_by None = (1, 0)
+
 -- 01's number and value for each answer of a uniform draw
-abbrev pub uniform_by : Draw → ℕ × ℕ
-uniform_by (draw.Value v) = (0, v)
-uniform_by draw.NoDraw = (1, 0)
-uniform_by draw.Refused = (7, 0)
+abbrev pub uniform_by : Result (Option ℕ) EmptyRange → ℕ × ℕ
+uniform_by (Ok d) = draw_by d
+uniform_by (Err e) = (7, 0)
 
 -- 01, Vec, Digest and u128 in this source: a u128 by its two halves
 abbrev pub value_of : U128 → ℕ

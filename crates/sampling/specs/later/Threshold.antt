@@ -1,12 +1,11 @@
 -- Document 01, Sampler, and 02, N4: the converter, which makes the threshold X of a probability q, a double; and its export.
-use Rattle.std.specs.Prelude.{ℕ, zero, suc, ◌-◌, ◌*◌, ◌/◌, ◌%◌, ◌^◌, min, Bool, false, cond, not, ◌||◌, List, [], ◌∷◌, length, ℤ, pos, ◌==◌, is_nan, Float}
+use Rattle.std.specs.Prelude.{ℕ, zero, suc, ◌-◌, ◌*◌, ◌/◌, ◌%◌, ◌^◌, min, Bool, false, cond, not, ◌||◌, List, [], ◌∷◌, length, ℤ, pos, Result, Ok, Err, ◌==◌, is_nan, Float}
 use Rattle.std.specs.Float.{nan, inf, fin}
 use Rattle.std.specs.Float.Ieee.{up, down, lt}
 use Rattle.sampling.specs.core.Sample.{value_of}
 use Rattle.sampling.specs.core.FirstNumber.{first_number, line}
 use Rattle.sampling.specs.declared.sample.U128.{U128}
-use Rattle.sampling.specs.declared.sample.Threshold.{Threshold}
-use Rattle.sampling.specs.declared.sample.Threshold.TheVariants as at
+use Rattle.sampling.specs.declared.sample.NotProbability.{NotProbability}
 
 -- x is a NaN, below 0 or above the whole number hi. Negative zero is not below 0
 unfoldable pub outside : ℕ → Float → Bool
@@ -39,9 +38,9 @@ abbrev pub xOf : Float → U128
 xOf q = halves_of (converted q).1
 
 -- 01's number and X for each answer of `threshold_of`
-abbrev pub converted_by : Threshold → ℕ × ℕ
-converted_by (at.At w) = (0, value_of w)
-converted_by at.Refused = (3, 0)
+abbrev pub converted_by : Result U128 NotProbability → ℕ × ℕ
+converted_by (Ok w) = (0, value_of w)
+converted_by (Err e) = (3, 0)
 
 -- ---- as C calls it
 

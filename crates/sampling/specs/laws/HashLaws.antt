@@ -1,6 +1,6 @@
 -- Laws of the hash's definitions. A caller that cites these opens none of them.
-use Rattle.std.specs.Prelude.{◌≡◌, ℕ, zero, suc, ◌+◌, ◌*◌, ◌/◌, ◌%◌, ◌^◌, ◌<◌, ◌≤◌, List, [], ◌∷◌, ◌++◌, length, replicate, slice_index, refl}
-use Rattle.std.proofs.Common.{◌∙◌, arith, le-leb, length-append}
+use Rattle.std.specs.Prelude.{◌≡◌, ℕ, zero, suc, ◌+◌, ◌*◌, ◌/◌, ◌%◌, ◌^◌, ◌<◌, ◌≤◌, List, [], ◌∷◌, ◌++◌, length, replicate, slice_index, Result, Ok, Err, refl}
+use Rattle.std.proofs.Common.{ap, ◌∙◌, arith, le-leb, length-append}
 use Rattle.std.proofs.lemmas.Bool.{lt-leb}
 use Rattle.std.proofs.lemmas.List.{length-replicate}
 use Rattle.std.proofs.Math.ListN.{get_or-append}
@@ -8,9 +8,10 @@ use Rattle.sampling.specs.core.BigEndian.{bytes_of}
 use Rattle.sampling.specs.laws.BigEndianLaws.{length_bytes_of, All256, all256_at, all256_bytes_of, all256_append}
 use Rattle.sampling.specs.core.Fips180.{zero_bytes, padding, padded, words, block, H₀, compressed, hash_value, word_bytes, digest_of}
 use Rattle.sampling.specs.core.Fips180.{sha256}
-use Rattle.sampling.specs.core.Hash.{hashed}
+use Rattle.sampling.specs.core.Hash.{hashed, hashed_by}
 use Rattle.sampling.specs.inner.LastBlocksInner.{hash_value_from}
 use Rattle.sampling.specs.declared.sha256.State.{State}
+use Rattle.sampling.specs.declared.sha256.TooLong.{TooLong}
 
 -- ---- 5.1.1: k, the number of zero bits, solves l + 1 + k ≡ 448 modulo 512, and no smaller k does
 
@@ -88,6 +89,13 @@ pub sha256_bytes : (m : List ℕ) (i : ℕ) → slice_index (sha256 m) i < 256
 unfolding sha256 digest_of
 sha256_bytes m i = all256_at _ (joined_bytes _) i
 
+-- by its blocks
+pub sha256_in_blocks : (m : List ℕ) → sha256 m ≡ digest_of (hash_value_from H₀ (padded m) ((length m + 72) / 64))
+unfolding sha256
+sha256_in_blocks m =
+    let k : length (padded m) / 64 ≡ (length m + 72) / 64 = omega (arith, length_padded m) in
+    rw (k, from_first (padded m) ((length m + 72) / 64))
+
 -- ---- document 01's limit
 
 pub hashed_within : (m : List ℕ) → length m ≤ 2 ^ 29 → hashed m ≡ (0, sha256 m)
@@ -95,11 +103,15 @@ unfolding hashed
 hashed_within m h = rw (le-leb (length m) (2 ^ 29) h)
 
 pub hashed_in_blocks : (m : List ℕ) → length m ≤ 2 ^ 29 → hashed m ≡ (0, digest_of (hash_value_from H₀ (padded m) ((length m + 72) / 64)))
-unfolding sha256
-hashed_in_blocks m h =
-    let k : length (padded m) / 64 ≡ (length m + 72) / 64 = omega (arith, length_padded m) in
-    hashed_within m h ∙ rw (k, from_first (padded m) ((length m + 72) / 64))
+hashed_in_blocks m h = hashed_within m h ∙ rw (sha256_in_blocks m)
 
 pub hashed_over : (m : List ℕ) → 2 ^ 29 < length m → hashed m ≡ (9, replicate 32 0)
 unfolding hashed
 hashed_over m h = rw (lt-leb (length m) (2 ^ 29) h)
+
+-- an answer of the hash, where what it was asked for is within the limit
+pub digest_within : (r : Result (List ℕ) TooLong) (m : List ℕ) → length m ≤ 2 ^ 29 → hashed_by r ≡ hashed m → r ≡ Ok (sha256 m)
+digest_within (Ok digest) m h e =
+    let answer : List ℕ → Result (List ℕ) TooLong = λ d. Ok d in
+    ap (λ (a : ℕ × List ℕ). answer a.1) (e ∙ hashed_within m h)
+digest_within (Err x) m h e = absurd (let n = ap (λ (a : ℕ × List ℕ). a.0) (e ∙ hashed_within m h) in omega arith)

@@ -94,7 +94,7 @@ just_one m v l =
     omega arith
 
 counted_once : (m k : ℕ) (t : List ℕ) → IsTable m k t → how_many_tables m k (λ (s : List ℕ). same_bytes t s) ≡ 1
-unfolding Each sum_tables same_bytes
+unfolding Each sum_tables
 counted_once m zero [] T = refl
 counted_once m zero (v ∷ t) T = absurd (let l = T.0 in omega arith)
 counted_once m (suc k) [] T = absurd (let l = T.0 in omega arith)

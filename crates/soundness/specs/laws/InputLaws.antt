@@ -11,7 +11,6 @@ use Rattle.centralized_telescope.specs.core.Elements.{Element, index_bytes, tail
 use Rattle.centralized_telescope.specs.core.Rounds.{round_label, bin_label, proof_label}
 use Rattle.centralized_telescope.specs.laws.TestLaws.{neither}
 use Rattle.centralized_telescope.specs.laws.ListsLaws.{each_nil}
-use Rattle.centralized_telescope.specs.laws.ElementsLaws.{index_short}
 use Rattle.soundness.specs.AnyHash.{start_input, next_input, bin_input, last_input}
 use Rattle.soundness.specs.Functions.{OfBytes}
 use Rattle.soundness.specs.Green.{IsElement, longest}
@@ -42,6 +41,10 @@ short_joined k l r s R S =
 
 short_number : (k v : ℕ) → Short k (bytes_of k v)
 short_number k v = (bytes_number k v, le_of_eq (length_bytes_of k v))
+
+index_short : (o : Option ℕ) → length (index_bytes o) ≤ 8
+index_short none = omega arith
+index_short (some v) = omega (arith, length_bytes_of 8 v)
 
 short_tail : (e : Element) → IsElement e → Short (4096 + 8) (tail e)
 unfolding tail

@@ -1,10 +1,7 @@
 -- `seal`: the blocks from the k-th on are made.
-use Rattle.std.proofs.Common.{◌≡◌, ◌≤◌, length}
+use Rattle.std.proofs.Common.{◌≡◌, length}
 use Rattle.centralized_telescope.proofs.BlockWriting.{sealed_from}
 use Rattle.centralized_telescope.proofs.blocks.seal.Given as goal
 
 abbrev pub invariant-loop-k : goal.invariant-loop-k
-invariant-loop-k l = (l.k ≤ l.n) × (length l.out ≡ length l.initial.out) × (l.out ≡ sealed_from l.k l.n l.initial.out)
-
-abbrev pub decreases-loop-k : goal.decreases-loop-k
-decreases-loop-k l = l.k
+invariant-loop-k l = (length l.out ≡ length l.initial.out) × (l.out ≡ sealed_from l.k l.n l.initial.out)

@@ -6,14 +6,7 @@ use Rattle.centralized_telescope.proofs.blocks.seal_one.Goals as goal
 
 pub returns : goal.returns
 returns c =
-    let second = c in
-    let first = second in
-    let made = first in
-    let read = made in
-    let s = read in
-    let z = s.args in
-    let o = z.out.now in
-    let body = part_copied (body_bytes * z.k) body_bytes o _ (omega arith) read.copy_from_slice.ensures.after in
+    let o = c.args.out.now in
+    let body = part_copied (body_bytes * c.args.k) body_bytes o _ (omega arith) c.copy_from_slice.ensures.after in
     rw body at
-    (block_made (block_bytes * z.k) o _ _ _ _ s.requires (search rules) made.check_of-check.ensures first.copy_at.ensures
-    second.copy_at-2.ensures)
+    (block_made (block_bytes * c.args.k) o _ _ _ _ c.requires (search rules) c.check_of-check.ensures c.copy_at.ensures c.copy_at-2.ensures)

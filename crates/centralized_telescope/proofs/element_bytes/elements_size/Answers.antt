@@ -1,70 +1,38 @@
 -- `elements_size`: the size of the first i elements.
-use Rattle.std.proofs.Common.{◌≤◌, length, sym, ap, arith, take_all, rules}
-use Rattle.centralized_telescope.specs.core.Elements.{elements, max_data_bytes}
-use Rattle.centralized_telescope.specs.inner.ListReading.{index_at, lent_now}
-use Rattle.centralized_telescope.specs.laws.ElementsLaws.{ends_right, same_marks, same_indexes, length_elements, few_elements}
-use Rattle.centralized_telescope.specs.laws.ElementBytesLaws.{marked_one}
-use Rattle.centralized_telescope.proofs.ElementWriting.{no_bytes, own_small, size_more}
+use Rattle.std.proofs.Common.{◌≡◌, ◌<◌, length, sym, ap, ◌∙◌, arith, take_all}
+use Rattle.centralized_telescope.specs.core.Elements.{Element, elements, element_at}
+use Rattle.centralized_telescope.specs.inner.Held.{held}
+use Rattle.centralized_telescope.specs.later.ElementBytes.{element_bytes}
+use Rattle.centralized_telescope.specs.laws.ElementsLaws.{length_elements, few_elements}
+use Rattle.centralized_telescope.proofs.ElementWriting.{no_bytes, size_most, size_more}
 use Rattle.centralized_telescope.proofs.element_bytes.elements_size.Goals as goal
 
 pub loop-i-init : goal.loop-i-init
-loop-i-init c = (search rules, search rules, sym (ap length no_bytes))
+loop-i-init c = (omega arith, sym (ap length no_bytes))
 
-pub data_of-own-requires : goal.data_of-own-requires
-data_of-own-requires c =
-    let o = c in
-    let z = o.args in
-    (ends_right _ o.requires, search rules)
+inside : (c : goal.After-element_size-size) → c.loop-i.i < length c.args.list.ends.now
+inside c = omega (arith, c.loop-i-test.true, c.len-i-end.ensures)
 
-pub index_of-index-requires : goal.index_of-index-requires
-index_of-index-requires c =
-    let o = c in
-    let z = o.args in (
-      omega (arith, same_marks _ o.requires),
-      omega (arith, same_indexes _ o.requires),
-    )
+-- the element's size
+size_is : (c : goal.After-element_size-size)
+    → c.element_size-size.result ≡ length (element_bytes (element_at (elements (held c.args.list)) c.loop-i.i))
+size_is c = c.element_size-size.ensures ∙ ap (λ (e : Element). length (element_bytes e)) c.element.ensures
 
--- the element's size, with what is known of its parts
-own_short : (c : goal.After-struct_known-1) → length c.data_of-own.result.now ≤ max_data_bytes
-own_short c =
-    let o = c in
-    let z = o.args in
-    own_small _ o.requires c.loop-i.i (search rules) _ c.data_of-own.ensures
-
-mark_most : (c : goal.After-struct_known-1) → c.index_of-index.result.mark ≤ 1
-mark_most c =
-    let z = c.args in
-    rw c.index_of-index.ensures.0
-    (marked_one (index_at z.marks.now z.indexes.now c.loop-i.i))
-
-pub overflow_add-size-in-loop-i-2 : goal.overflow_add-size-in-loop-i-2
-overflow_add-size-in-loop-i-2 c =
-    let o = c in
-    let z = o.args in
-    omega (
-      arith,
-      own_short c,
-      mark_most c,
-      few_elements _ o.requires,
-      c.loop-i.invariant.1,
-      c.loop-i.invariant.0,
-    )
+pub overflow_add-size : goal.overflow_add-size
+overflow_add-size c =
+    let list = c.args.list in
+    omega (arith, c.loop-i.invariant.0, inside c, few_elements (held list) list.accepted, size_is c, size_most (held list) list.accepted c.loop-i.i (inside c))
 
 pub loop-i-preserved : goal.loop-i-preserved
 loop-i-preserved c =
-    let o = c in
-    let z = o.args in
-    let l = c.loop-i in (
-      search rules,
-      omega (arith, own_short c, mark_most c, l.invariant.1),
-      size_more _ o.requires l.i (search rules) _ c.data_of-own.ensures _ c.index_of-index.ensures.0 l.size
-          l.invariant.2,
+    let list = c.args.list in (
+      omega (arith, c.loop-i.invariant.0, size_is c, size_most (held list) list.accepted c.loop-i.i (inside c)),
+      omega (arith, c.loop-i.invariant.1, size_is c, size_more (held list) list.accepted c.loop-i.i (inside c)),
     )
 
 pub returns : goal.returns
 returns c =
-    let o = c in
-    let z = o.args in
+    let list = c.args.list in
     let l = c.loop-i in
-    let e = take_all l.i (elements (lent_now z.«data» z.ends z.marks z.indexes)) (omega (arith, length_elements _ o.requires)) in
-    (rw e at l.invariant.2, search rules)
+    let e = take_all l.i (elements (held list)) (omega (arith, length_elements (held list) list.accepted, c.loop-i-test.false, c.len-i-end.ensures)) in
+    (rw e at l.invariant.1, omega (arith, l.invariant.0, l.auto.i-end, c.len-i-end.ensures))

@@ -1,14 +1,11 @@
 -- `elements_size`: the size of the first i elements.
-use Rattle.std.proofs.Common.{◌≡◌, ◌+◌, ◌-◌, ◌*◌, ◌≤◌, length, take}
-use Rattle.centralized_telescope.specs.core.Elements.{elements, lent_of, max_data_bytes}
+use Rattle.std.proofs.Common.{◌≡◌, ◌+◌, ◌*◌, ◌≤◌, length, take}
+use Rattle.centralized_telescope.specs.core.Elements.{elements, max_data_bytes}
+use Rattle.centralized_telescope.specs.inner.Held.{held}
 use Rattle.centralized_telescope.specs.later.ElementBytes.{elements_bytes, max_head_bytes}
 use Rattle.centralized_telescope.proofs.element_bytes.elements_size.Given as goal
 
 abbrev pub invariant-loop-i : goal.invariant-loop-i
 invariant-loop-i l =
-    (l.i ≤ length l.ends)
-    × (l.size ≤ (max_head_bytes + max_data_bytes) * l.i)
-    × (l.size ≡ length (elements_bytes (take l.i (elements (lent_of l.data l.ends l.marks l.indexes)))))
-
-abbrev pub decreases-loop-i : goal.decreases-loop-i
-decreases-loop-i l = length l.ends - l.i
+    (l.size ≤ (max_head_bytes + max_data_bytes) * l.i)
+    × (l.size ≡ length (elements_bytes (take l.i (elements (held l.list)))))

@@ -1,68 +1,51 @@
 -- `write_elements_bytes`: the first i elements stand behind what was there up to `from`.
-use Rattle.std.proofs.Common.{ℕ, List, take, sym, refl, append-nil, arith, take-append-drop, length-take, length-take-le, take_all, rules}
-use Rattle.centralized_telescope.specs.core.Elements.{elements}
-use Rattle.centralized_telescope.specs.inner.ListReading.{lent_now}
-use Rattle.centralized_telescope.specs.laws.ElementsLaws.{ends_right, same_marks, same_indexes, length_elements}
-use Rattle.centralized_telescope.proofs.ElementWriting.{no_bytes, own_small, behind_within, used_more, element_put}
+use Rattle.std.proofs.Common.{ℕ, ◌<◌, List, length, take, sym, ap, append-nil, arith, take-append-drop, length-take, length-take-le, take_all}
+use Rattle.centralized_telescope.specs.core.Elements.{Element, elements, element_at}
+use Rattle.centralized_telescope.specs.inner.Held.{held}
+use Rattle.centralized_telescope.specs.inner.Gathering.{Put}
+use Rattle.centralized_telescope.specs.later.ElementBytes.{element_bytes}
+use Rattle.centralized_telescope.specs.laws.ElementsLaws.{length_elements}
+use Rattle.centralized_telescope.proofs.ElementWriting.{no_bytes, behind_within, used_more, element_put}
 use Rattle.centralized_telescope.proofs.element_bytes.write_elements_bytes.Goals as goal
 
 pub loop-i-init : goal.loop-i-init
 loop-i-init c =
-    let o = c in
-    let z = o.args in (
-      search rules,
-      refl,
-      rw (no_bytes, append-nil (take z.from z.out.now)) (sym (length-take-le z.from z.out.now (omega (arith, o.requires.1)))),
-      rw (no_bytes, append-nil (take z.from z.out.now), length-take-le z.from z.out.now (omega (arith, o.requires.1)))
-          (sym (take-append-drop z.from z.out.now)),
+    let z = c.args in
+    let front = length-take-le z.from z.out.now (omega (arith, c.requires)) in (
+      rw (no_bytes, append-nil (take z.from z.out.now)) (sym front),
+      rw (no_bytes, append-nil (take z.from z.out.now), front) (sym (take-append-drop z.from z.out.now)),
     )
-
-pub data_of-own-requires : goal.data_of-own-requires
-data_of-own-requires c = (ends_right _ c.requires.0, search rules)
-
-pub index_of-index-requires : goal.index_of-index-requires
-index_of-index-requires c =
-    let A = c.requires.0 in
-    (omega (arith, same_marks _ A), omega (arith, same_indexes _ A))
 
 pub put_element-used-requires : goal.put_element-used-requires
 put_element-used-requires c =
-    let s = c in
-    let l = s in
-    let o = l in
-    let z = o.args in
-    let own = s.data_of-own.ensures in
-    let within = behind_within _ o.requires.0 l.loop-i.i (search rules) _ own _ s.index_of-index.ensures.0 _ s.index_of-index.ensures.1
-    (take z.from z.out.now) in (
-      own_small _ o.requires.0 l.loop-i.i (search rules) _ own,
-      omega (arith, within, length-take z.from z.out.now, o.requires.1, l.loop-i.invariant.1, l.loop-i.invariant.2),
+    let z = c.args in
+    let l = c.loop-i in
+    let inside : l.i < length z.list.ends.now = omega (arith, c.loop-i-test.true, c.len-i-end.ensures) in
+    omega (
+      arith,
+      behind_within (held z.list) z.list.accepted l.i inside (take z.from z.out.now),
+      ap (λ (e : Element). length (element_bytes e)) c.element.ensures,
+      length-take z.from z.out.now,
+      c.requires,
+      l.auto.out,
+      l.invariant.0,
     )
 
 pub loop-i-preserved : goal.loop-i-preserved
 loop-i-preserved c =
-    let e = c.put_element-used in
-    let s = c in
-    let l = s in
-    let o = l in
-    let z = o.args in
+    let z = c.args in
+    let l = c.loop-i in
+    let inside : l.i < length z.list.ends.now = omega (arith, c.loop-i-test.true, c.len-i-end.ensures) in
     let w : List ℕ = take z.from z.out.now in
-    let own = s.data_of-own.ensures in
-    let mark = s.index_of-index.ensures.0 in
-    let number = s.index_of-index.ensures.1 in (
-      search rules,
-      omega (arith, l.loop-i.invariant.1, e.auto.out),
-      used_more _ o.requires.0 l.loop-i.i (search rules) _ own _ mark _ number w z.out.now _ _ _ _ l.loop-i.invariant.2 e.ensures,
-      element_put _ o.requires.0 l.loop-i.i (search rules) _ own _ mark _ number w z.out.now _ _ _ _ l.loop-i.invariant.2 e.ensures
-          l.loop-i.invariant.3,
+    let there : Put (element_bytes (element_at (elements (held z.list)) l.i)) l.used l.out c.put_element-used.new.out c.put_element-used.result
+    = rw (← c.element.ensures) c.put_element-used.ensures in (
+      used_more (held z.list) z.list.accepted l.i inside w z.out.now _ _ _ _ l.invariant.0 there,
+      element_put (held z.list) z.list.accepted l.i inside w z.out.now _ _ _ _ l.invariant.0 there l.invariant.1,
     )
-
-pub shape_of-out : goal.shape_of-out
-shape_of-out c = c.loop-i.invariant.1
 
 pub returns : goal.returns
 returns c =
-    let o = c in
-    let z = o.args in
+    let list = c.args.list in
     let l = c.loop-i in
-    let e = take_all l.i (elements (lent_now z.«data» z.ends z.marks z.indexes)) (omega (arith, length_elements _ o.requires.0)) in
-    rw e at l.invariant.3
+    let e = take_all l.i (elements (held list)) (omega (arith, length_elements (held list) list.accepted, c.loop-i-test.false, c.len-i-end.ensures)) in
+    rw e at l.invariant.1

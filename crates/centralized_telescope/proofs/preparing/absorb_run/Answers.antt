@@ -1,49 +1,50 @@
--- `absorb_run`: the head, then the first i elements are absorbed.
-use Rattle.std.proofs.Common.{◌≤◌, length, sym, ◌∙◌, append-nil, arith, length-take-le, rules}
+-- `absorb_run`: the head, then the elements, each behind what is gathered.
+use Rattle.std.proofs.Common.{sym, ◌∙◌, arith}
+use Rattle.centralized_telescope.specs.core.Elements.{elements}
+use Rattle.centralized_telescope.specs.inner.Held.{held, element_read}
 use Rattle.centralized_telescope.specs.laws.ElementsLaws.{length_elements, few_elements}
-use Rattle.centralized_telescope.proofs.ElementWriting.{no_bytes}
-use Rattle.centralized_telescope.proofs.RunHashing.{part_more, run_absorbed}
+use Rattle.centralized_telescope.proofs.RunHashing.{Roomy, put_room, none_gathered, room_made, one_gathered, all_gathered}
 use Rattle.centralized_telescope.proofs.preparing.absorb_run.Goals as goal
+use Rattle.centralized_telescope.proofs.preparing.absorb_run.Goals.{then-used-element, else-used-element}
 
 pub absorb_head-hasher-requires : goal.absorb_head-hasher-requires
-absorb_head-hasher-requires c = few_elements _ c.requires
+absorb_head-hasher-requires c =
+    let list = c.args.run.list in omega (arith, c.len.ensures, few_elements (held list) list.accepted)
 
-pub loop-i-init : goal.loop-i-init
-loop-i-init c = (search rules, c.gather_room-gathered.ensures, λ w e. rw (no_bytes, append-nil w) e)
+pub loop-place-init : goal.loop-place-init
+loop-place-init c =
+    let list = c.args.run.list in
+    none_gathered c.args.run.settings.params (elements (held list)) c.len.result (length_elements (held list) list.accepted ∙ sym c.len.ensures) _ _
+    c.absorb_head-hasher.ensures c.room-gathered.ensures
 
-pub slice_bounds-gather-end : goal.slice_bounds-gather-end
-slice_bounds-gather-end c = c.loop-i.invariant.1
+pub put_element-used-requires : goal.put_element-used-requires
+put_element-used-requires c =
+    let list = c.args.run.list in
+    let e = element_read c.element-element.result in
+    let room : Roomy c.args.run.settings.params (elements (held list)) c.loop-place.place e c.if-used-element.hasher c.loop-place.gathered
+    c.if-used-element.used
+    = elim c.if-used-element.branch [
+      | then-used-element w ↦ rw (w.hasher-is, w.used-is) (room_made _ _ _ _ _ _ c.loop-place.invariant e c.element-element.result.short _ w.absorb-hasher.ensures)
+      | else-used-element w ↦ rw (w.hasher-is, w.used-is) (c.loop-place.invariant, omega (arith, w.if-used-element.false))
+    ] in
+    put_room e _ _ room.0.room room.0.within room.1
 
-pub gather-part-requires : goal.gather-part-requires
-gather-part-requires c = let l = c in (l.requires, omega arith, l.loop-i.invariant.1)
-
-pub slice_bounds-gathered-end : goal.slice_bounds-gathered-end
-slice_bounds-gathered-end c = c.gather-part.ensures.within
-
-pub slice_bounds-absorb-end : goal.slice_bounds-absorb-end
-slice_bounds-absorb-end c = let g = c.gather-part in sym (length-take-le _ _ g.ensures.within)
-
--- what is gathered are elements of the list
-within_list : (s : goal.After-absorb-hasher)
-    → s.gather-part.result.next ≤ length s.args.ends.now
-within_list s =
-    let g = s in
-    omega (arith, g.gather-part.ensures.there, length_elements _ g.requires)
-
-pub loop-i-smaller : goal.loop-i-smaller
-loop-i-smaller c = let g = c.gather-part.ensures in omega (arith, g.one, within_list c)
-
-pub loop-i-preserved : goal.loop-i-preserved
-loop-i-preserved c =
-    let s = c in
-    let l = s in (
-      within_list c,
-      l.loop-i.invariant.1 ∙ sym s.gather-part.auto.out,
-      λ w e. part_more w _ _ _ _ _ (l.loop-i.invariant.2 w e) c.absorb-hasher.ensures s.gather-part.ensures.bytes,
-    )
+pub loop-place-preserved : goal.loop-place-preserved
+loop-place-preserved c =
+    let list = c.args.run.list in
+    let e = element_read c.element-element.result in
+    let room : Roomy c.args.run.settings.params (elements (held list)) c.loop-place.place e c.if-used-element.hasher c.loop-place.gathered
+    c.if-used-element.used
+    = elim c.if-used-element.branch [
+      | then-used-element w ↦ rw (w.hasher-is, w.used-is) (room_made _ _ _ _ _ _ c.loop-place.invariant e c.element-element.result.short _ w.absorb-hasher.ensures)
+      | else-used-element w ↦ rw (w.hasher-is, w.used-is) (c.loop-place.invariant, omega (arith, w.if-used-element.false))
+    ] in
+    one_gathered _ _ _ e _ _ _ room (omega (arith, length_elements (held list) list.accepted, c.loop-place-test.true, c.len-place-end.ensures))
+    c.element-element.ensures _ _ c.put_element-used.auto.out c.put_element-used.ensures
 
 pub returns : goal.returns
 returns c =
-    let l = c in
-    let o = l in
-    run_absorbed o.args.p _ o.requires l.loop-i.i (omega arith) _ _ l.absorb_head-hasher.ensures l.loop-i.invariant.2
+    let list = c.args.run.list in
+    c.absorb.ensures
+    ∙ all_gathered _ _ c.loop-place.place _ _ _ c.loop-place.invariant
+    (omega (arith, length_elements (held list) list.accepted, c.loop-place-test.false, c.len-place-end.ensures))

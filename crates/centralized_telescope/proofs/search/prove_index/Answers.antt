@@ -1,64 +1,52 @@
 -- `prove_index`: from the search counter s on, the try gives what the whole of it is to give.
-use Rattle.std.proofs.Common.{ℕ, List, length, sym, ap, ◌∙◌, subst, arith}
-use Rattle.centralized_telescope.specs.inner.RoundAnswers.{id_option}
+use Rattle.std.proofs.Common.{ap, arith, length}
 use Rattle.centralized_telescope.specs.laws.TryLaws.{id_below}
-use Rattle.centralized_telescope.specs.inner.Source.{source_now}
-use Rattle.centralized_telescope.specs.inner.Visit.{try_on, Ready}
-use Rattle.centralized_telescope.proofs.OneTry.{try_begins, all_tried, bound_reached, Starting, try_nothing, try_missing}
-use Rattle.centralized_telescope.proofs.OneTry.{try_found}
+use Rattle.centralized_telescope.specs.inner.Visit.{try_held}
+use Rattle.centralized_telescope.proofs.Walked.{round_drawn}
+use Rattle.centralized_telescope.proofs.OneTry.{try_begins, all_tried, bound_reached, Starting, try_nothing, try_missing, try_found}
 use Rattle.centralized_telescope.proofs.search.prove_index.Goals as goal
-use Rattle.centralized_telescope.proofs.search.prove_index.Goals.{in-At+in-Missing, in-Nowhere}
+use Rattle.centralized_telescope.proofs.search.prove_index.Goals.{in-Some+in-Continue, in_default}
 
 pub loop-s-init : goal.loop-s-init
-loop-s-init c =
-    let a = c.args in
-    let source = source_now a.«data» a.ends a.marks a.indexes a.data2 a.ends2 a.marks2 a.indexes2 a.added in
-    try_begins (try_on a.p source a.retry.0) a.places.now
+loop-s-init c = try_begins (try_held c.args.t.now) c.args.places.now
 
-pub returns-then-p-count : goal.returns-then-p-count
-returns-then-p-count c = bound_reached c.loop-s.invariant c.if-p-count.true
+pub returns-then-settings-count : goal.returns-then-settings-count
+returns-then-settings-count c = bound_reached c.loop-s.invariant c.if-settings-count.true
 
-pub visit-outcome-requires-clause-can : goal.visit-outcome-requires-clause-can
-visit-outcome-requires-clause-can c =
-    let a = c.args in
-    let source = source_now a.«data» a.ends a.marks a.indexes a.data2 a.ends2 a.marks2 a.indexes2 a.added in
-    record {
-      ready = subst (λ (places : List ℕ). Ready a.p source a.retry.0 a.table.now (length places)) (sym c.loop-s.invariant.as_lent) c.requires;
-      id_below = id_below (try_on a.p source a.retry.0) _ _ (sym c.round_id-drawn.ensures ∙ ap id_option c.in-At.is);
-      deep = omega arith;
-      within = c.if-p-count.false;
-    }
+pub visit-requires-clause-can : goal.visit-requires-clause-can
+visit-requires-clause-can c = record {
+  roomy = omega (arith, c.requires, ap length c.loop-s.invariant.as_lent);
+  id_below = id_below (try_held c.args.t.now) _ _ (round_drawn (try_held c.args.t.now) _ _ c.round_of.ensures c.in-Some.is).id_is;
+  deep = omega arith;
+  within = c.if-settings-count.false;
+}
 
-pub returns-in-Found : goal.returns-in-Found
-returns-in-Found c =
-    let a = c.args in
+pub returns-in-Break : goal.returns-in-Break
+returns-in-Break c =
     let l = c.loop-s in
-    let source = source_now a.«data» a.ends a.marks a.indexes a.data2 a.ends2 a.marks2 a.indexes2 a.added in
-    let k : Starting (try_on a.p source a.retry.0) l.s l.count l.places a.places.now c.start_hash-h.result c.round_id-drawn.result = record {
+    let k : Starting (try_held c.args.t.now) l.s l.count l.places c.args.places.now c.start_hash.result c.round_of.result = record {
       head = l.invariant;
       inside = c.loop-s-test.true;
-      within = c.if-p-count.false;
-      hash_is = c.start_hash-h.ensures;
-      id_is = c.round_id-drawn.ensures;
+      within = c.if-settings-count.false;
+      hash_is = c.start_hash.ensures;
+      round_is = c.round_of.ensures;
     } in
-    try_found k c.in-At.is c.visit-outcome.ensures.ends c.in-Found.is
+    try_found k c.in-Some.is c.visit.ensures.ends c.in-Break.is
 
 -- on by a visit that found nothing, or where the round doesn't exist
 pub loop-s-preserved : goal.loop-s-preserved
 loop-s-preserved c =
-    let a = c.args in
     let l = c.loop-s in
-    let source = source_now a.«data» a.ends a.marks a.indexes a.data2 a.ends2 a.marks2 a.indexes2 a.added in
-    let k : Starting (try_on a.p source a.retry.0) l.s l.count l.places a.places.now c.start_hash-h.result c.round_id-drawn.result = record {
+    let k : Starting (try_held c.args.t.now) l.s l.count l.places c.args.places.now c.start_hash.result c.round_of.result = record {
       head = l.invariant;
       inside = c.loop-s-test.true;
-      within = c.if-p-count.false;
-      hash_is = c.start_hash-h.ensures;
-      id_is = c.round_id-drawn.ensures;
+      within = c.if-settings-count.false;
+      hash_is = c.start_hash.ensures;
+      round_is = c.round_of.ensures;
     } in
-    elim c.match-drawn.branch [
-      | in-At+in-Missing w ↦ try_missing k w.in-At.is w.visit-outcome.ensures.ends w.in-Missing.is _ _ w.count-is w.places-is
-      | in-Nowhere w ↦ try_nothing k w.in-Nowhere.is _ _ w.count-is w.places-is
+    elim c.match-round_of.branch [
+      | in-Some+in-Continue w ↦ try_missing k w.in-Some.is w.visit.ensures.ends w.in-Continue.is _ _ w.count-is w.places-is
+      | in_default w ↦ try_nothing k w.in_default.is _ _ w.count-is w.places-is
     ]
 
 pub returns : goal.returns

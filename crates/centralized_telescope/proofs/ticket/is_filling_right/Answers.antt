@@ -1,5 +1,5 @@
 -- `is_filling_right`: what follows the offset is copied to the front of an array, and looked at there.
-use Rattle.std.proofs.Common.{◌-◌, not, drop, sym, ap, ◌∙◌, arith, length-take-le}
+use Rattle.std.proofs.Common.{◌-◌, not, drop, ap, ◌∙◌, arith}
 use Rattle.centralized_telescope.specs.later.Blocks.{bodies_of}
 use Rattle.centralized_telescope.proofs.TicketReading.{left_of_bodies, filling_long, filling_copied}
 use Rattle.centralized_telescope.proofs.ticket.is_filling_right.Goals as goal
@@ -8,9 +8,6 @@ pub returns-then-len-gt-MAX_FILLING : goal.returns-then-len-gt-MAX_FILLING
 returns-then-len-gt-MAX_FILLING c =
     let z = c.args in
     filling_long (drop z.end (bodies_of z.ticket.now)) (omega (arith, left_of_bodies z.ticket.now z.end))
-
-pub slice_bounds-some_over_zero-end : goal.slice_bounds-some_over_zero-end
-slice_bounds-some_over_zero-end c = sym (length-take-le _ _ (omega (arith, c.copy_from_bodies.auto.out)))
 
 pub returns : goal.returns
 returns c =

@@ -1,130 +1,55 @@
 -- `write_ticket`: the refusals in their order; else the content, its filling, and the blocks made of them.
-use Rattle.std.proofs.Common.{◌≡◌, ℕ, ◌+◌, ◌≤◌, length, sym, ap, ◌∙◌, arith}
-use Rattle.centralized_telescope.specs.core.Elements.{elements, list_check, list_check_by, lent_of}
-use Rattle.centralized_telescope.specs.inner.ListReading.{lent_now}
+use Rattle.std.proofs.Common.{◌+◌, sym, ap, ◌∙◌, arith, rules}
+use Rattle.std.proofs.lemmas.Result.{err_from_is_err_and}
+use Rattle.centralized_telescope.specs.core.Elements.{Lent, elements}
+use Rattle.centralized_telescope.specs.core.LentLists.{lent}
+use Rattle.centralized_telescope.specs.inner.Held.{held}
 use Rattle.centralized_telescope.specs.later.Blocks.{block_count}
-use Rattle.centralized_telescope.specs.later.Tickets.{content, ticket_head_bytes}
+use Rattle.centralized_telescope.specs.later.Tickets.{ticket_head_bytes, ticket_written}
 use Rattle.centralized_telescope.specs.laws.ElementsLaws.{few_elements}
 use Rattle.centralized_telescope.specs.laws.TicketsReadLaws.{content_length}
 use Rattle.centralized_telescope.proofs.TicketAnswers.{write_refused, write_short, write_done}
 use Rattle.centralized_telescope.proofs.ticket.write_ticket.Goals as goal
 
-pub returns-in-Refused : goal.returns-in-Refused
-returns-in-Refused c =
+pub returns-in_err-accepted : goal.returns-in_err-accepted
+returns-in_err-accepted c =
     let z = c.args in
-    write_refused z.retry_counter.0 z.search_counter.0 (lent_now z.«data» z.ends z.marks z.indexes) z.ticket.now
-    c.in-Refused.k (sym c.check_list.ensures ∙ ap list_check_by c.in-Refused.is)
-
--- the list is accepted
-accepted : (s : goal.In-Accepted)
-    → list_check (lent_of s.args.«data».now
-    s.args.ends.now
-    s.args.marks.now
-    s.args.indexes.now) ≡ 0
-accepted s = sym s.check_list.ensures ∙ ap list_check_by s.in-Accepted.is
-
-pub elements_size-size-requires : goal.elements_size-size-requires
-elements_size-size-requires c = accepted c
-
-accepted_2 : (s : goal.After-elements_size-size)
-    → list_check (lent_of s.args.«data».now
-    s.args.ends.now
-    s.args.marks.now
-    s.args.indexes.now) ≡ 0
-accepted_2 s = sym s.check_list.ensures ∙ ap list_check_by s.in-Accepted.is
-
--- and small
-size_most : (s : goal.After-elements_size-size) → s.elements_size-size.result ≤ 269287424
-size_most s =
-    let z = s.args in
-    omega (arith, s.elements_size-size.ensures.1, few_elements _ (accepted_2 s))
+    let p = err_from_is_err_and c.from_residual.result c.from_residual.ensures.1 in
+    let refused = write_refused z.retry_counter.0 z.search_counter.0 (lent z.list) z.ticket.now in
+    rw (p.1, p.2) (refused c.in_err-accepted.field-0.0 (sym c.in_err-accepted.ensures.number))
 
 pub overflow_add-size : goal.overflow_add-size
-overflow_add-size c = omega (arith, size_most c)
+overflow_add-size c = omega (arith, c.elements_size-size.ensures.1, few_elements _ c.in_ok-accepted.accepted.accepted)
 
 pub overflow_add-count : goal.overflow_add-count
-overflow_add-count c = omega (arith, size_most c)
+overflow_add-count c = omega (arith, c.elements_size-size.ensures.1, few_elements _ c.in_ok-accepted.accepted.accepted)
 
 pub overflow_mul-count : goal.overflow_mul-count
-overflow_mul-count c = omega (arith, size_most c)
-
-accepted_3 : (s : goal.Then-ticket-count)
-    → list_check (lent_of s.args.«data».now
-    s.args.ends.now
-    s.args.marks.now
-    s.args.indexes.now) ≡ 0
-accepted_3 s = sym s.check_list.ensures ∙ ap list_check_by s.in-Accepted.is
-
--- 24 and the size that was worked out are the content's length
-size_is : (s : goal.Then-ticket-count) → ticket_head_bytes + s.elements_size-size.result
-    ≡ length (content s.args.retry_counter.0
-    s.args.search_counter.0
-    (elements (lent_of s.args.«data».now
-    s.args.ends.now
-    s.args.marks.now
-    s.args.indexes.now)))
-size_is s =
-    let z = s.args in
-    let es = elements (lent_now z.«data» z.ends z.marks z.indexes) in
-    omega (arith, s.elements_size-size.ensures.0, content_length z.retry_counter.0 z.search_counter.0 es)
+overflow_mul-count c = omega (arith, c.elements_size-size.ensures.1, few_elements _ c.in_ok-accepted.accepted.accepted)
 
 pub returns-then-ticket-count : goal.returns-then-ticket-count
 returns-then-ticket-count c =
     let z = c.args in
-    write_short z.retry_counter.0 z.search_counter.0 (lent_now z.«data» z.ends z.marks z.indexes) z.ticket.now
-    (accepted_3 c) _ (size_is c) c.if-ticket-count.true
-
-accepted_4 : (s : goal.After-write_content-arg-1)
-    → list_check (lent_of s.args.«data».now
-    s.args.ends.now
-    s.args.marks.now
-    s.args.indexes.now) ≡ 0
-accepted_4 s = sym s.check_list.ensures ∙ ap list_check_by s.in-Accepted.is
-
-size_is_2 : (s : goal.After-write_content-arg-1) → ticket_head_bytes + s.elements_size-size.result
-    ≡ length (content s.args.retry_counter.0
-    s.args.search_counter.0
-    (elements (lent_of s.args.«data».now
-    s.args.ends.now
-    s.args.marks.now
-    s.args.indexes.now)))
-size_is_2 s =
-    let z = s.args in
-    let es = elements (lent_now z.«data» z.ends z.marks z.indexes) in
-    omega (arith, s.elements_size-size.ensures.0, content_length z.retry_counter.0 z.search_counter.0 es)
+    let list = c.in_ok-accepted.accepted in
+    let long = content_length z.retry_counter.0 z.search_counter.0 (elements (held list)) in
+    write_short z.retry_counter.0 z.search_counter.0 (held list) z.ticket.now list.accepted _
+    (omega (arith, c.elements_size-size.ensures.0, long)) c.if-ticket-count.true
+    ∙ ap (λ (l : Lent). ticket_written z.retry_counter.0 z.search_counter.0 l z.ticket.now) c.in_ok-accepted.ensures.same
 
 pub write_content-requires : goal.write_content-requires
-write_content-requires c = (
-  accepted_4 c,
-  ap (λ (k : ℕ). block_count (ticket_head_bytes + k)) c.elements_size-size.ensures.0,
-  omega (arith, size_is_2 c, c.if-ticket-count.false),
-)
-
-accepted_5 : (s : goal.After-slice_known-4-1)
-    → list_check (lent_of s.args.«data».now
-    s.args.ends.now
-    s.args.marks.now
-    s.args.indexes.now) ≡ 0
-accepted_5 s = sym s.check_list.ensures ∙ ap list_check_by s.in-Accepted.is
-
-size_is_3 : (s : goal.After-slice_known-4-1) → ticket_head_bytes + s.elements_size-size.result
-    ≡ length (content s.args.retry_counter.0
-    s.args.search_counter.0
-    (elements (lent_of s.args.«data».now
-    s.args.ends.now
-    s.args.marks.now
-    s.args.indexes.now)))
-size_is_3 s =
-    let z = s.args in
-    let es = elements (lent_now z.«data» z.ends z.marks z.indexes) in
-    omega (arith, s.elements_size-size.ensures.0, content_length z.retry_counter.0 z.search_counter.0 es)
+write_content-requires c =
+    let z = c.args in
+    let long = content_length z.retry_counter.0 z.search_counter.0 (elements (held c.in_ok-accepted.accepted)) in (
+      ap (λ k. block_count (ticket_head_bytes + k)) c.elements_size-size.ensures.0,
+      omega (arith, c.elements_size-size.ensures.0, long, c.if-ticket-count.false),
+    )
 
 pub returns : goal.returns
 returns c =
-    let s = c in
-    let z = s.args in
-    write_done z.retry_counter.0 z.search_counter.0 (lent_now z.«data» z.ends z.marks z.indexes) z.ticket.now
-    (accepted_5 s) _ (size_is_3 s)
-    c.if-ticket-count.false _ _
-    c.write_content.ensures
-    c.fill_zeros.ensures _ c.seal.ensures
+    let z = c.args in
+    let list = c.in_ok-accepted.accepted in
+    let long = content_length z.retry_counter.0 z.search_counter.0 (elements (held list)) in
+    let zeros = c.fill.ensures.after (λ y e. search rules) in
+    write_done z.retry_counter.0 z.search_counter.0 (held list) z.ticket.now list.accepted _
+    (omega (arith, c.elements_size-size.ensures.0, long)) c.if-ticket-count.false _ _ c.write_content.ensures zeros _ c.seal.ensures
+    ∙ ap (λ (l : Lent). ticket_written z.retry_counter.0 z.search_counter.0 l z.ticket.now) c.in_ok-accepted.ensures.same

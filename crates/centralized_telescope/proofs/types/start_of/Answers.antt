@@ -1,14 +1,14 @@
 -- `start_of`: 0 at the first place, else the end before it.
-use Rattle.std.proofs.Common.{sym, ◌∙◌}
+use Rattle.std.proofs.Common.{◌-◌, sym, ◌∙◌, arith}
 use Rattle.centralized_telescope.specs.inner.ListReading.{start_at}
 use Rattle.centralized_telescope.specs.laws.ElementsLaws.{start_later}
 use Rattle.centralized_telescope.proofs.types.start_of.Goals as goal
 
 pub returns-then-place-eq0 : goal.returns-then-place-eq0
 unfolding start_at
-returns-then-place-eq0 c = rw c.if-place-eq0.true
+returns-then-place-eq0 g c = rw c.if-place-eq0.true
 
 pub returns : goal.returns
-returns c =
+returns g c =
     let z = c.args in
-    c.wide.ensures.0 ∙ sym (start_later z.ends.now z.place c.if-place-eq0.false)
+    c.requires.1.1.1 (z.place - 1) _ (omega arith) c.end_at.ensures ∙ sym (start_later g.ends z.place c.if-place-eq0.false)

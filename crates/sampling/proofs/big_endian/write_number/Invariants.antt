@@ -1,11 +1,7 @@
 -- `write_number`: what is left of v in the first k bytes, before those that are written, makes the bytes of v.
-use Rattle.std.proofs.Common.{◌≡◌, ◌≤◌, ◌++◌, length, drop}
+use Rattle.std.proofs.Common.{◌≡◌, ◌++◌, length, drop}
 use Rattle.sampling.specs.core.BigEndian.{bytes_of}
 use Rattle.sampling.proofs.big_endian.write_number.Given as goal
 
 abbrev pub invariant-loop-k : goal.invariant-loop-k
-invariant-loop-k l =
-    (l.k ≤ length l.out) × (length l.out ≡ length l.initial.out) × (bytes_of l.k l.rest ++ drop l.k l.out ≡ bytes_of (length l.initial.out) l.v)
-
-abbrev pub decreases-loop-k : goal.decreases-loop-k
-decreases-loop-k l = l.k
+invariant-loop-k l = bytes_of l.k l.rest ++ drop l.k l.out ≡ bytes_of (length l.initial.out) l.v

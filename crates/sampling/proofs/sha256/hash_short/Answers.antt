@@ -1,7 +1,7 @@
 -- `hash_short`: the strings joined with their padding, in blocks.
 use Rattle.std.proofs.Common.{◌≡◌, ◌+◌, ◌/◌, ◌++◌, length, sym, ◌∙◌, arith, length-append}
 use Rattle.sampling.specs.core.Fips180.{H₀, padded}
-use Rattle.sampling.specs.laws.HashLaws.{length_padded, hashed_in_blocks}
+use Rattle.sampling.specs.laws.HashLaws.{length_padded, sha256_in_blocks}
 use Rattle.sampling.proofs.MessageEnd.{read_whole}
 use Rattle.sampling.proofs.sha256.hash_short.Goals as goal
 
@@ -14,8 +14,8 @@ returns c =
     c.last_blocks.ensures
     ∙ rw (
       c.joined-m.ensures,
-      c.start.ensures,
+      c.initial.ensures,
       n,
       read_whole H₀ (padded m) ((length m + 72) / 64) (omega (arith, length_padded m)),
     )
-    (sym (hashed_in_blocks m (omega arith)))
+    (sym (sha256_in_blocks m))

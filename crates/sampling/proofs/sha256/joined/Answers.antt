@@ -13,10 +13,10 @@ returns c =
     ≡ length t = simp length-append (omega arith) in
     c.pad.ensures
     ∙ rw (
-      c.with_string.ensures,
-      c.with_string-three.ensures,
-      c.with_string-two.ensures,
-      c.with_string-one.ensures,
+      c.with_bytes.ensures,
+      c.with_bytes-three.ensures,
+      c.with_bytes-two.ensures,
+      c.with_bytes-one.ensures,
       four_laid z.a.now z.b.now z.c.now z.d.now (omega arith),
       n,
     )

@@ -13,8 +13,8 @@ returns c =
     elim c.if-filled-ge56.branch [
       | then-filled-ge56 w ↦
           let k : (a.filled + 72) / 64 ≡ 2 = omega arith in
-          rw (c.digest_of.ensures, w.s-is, w.compress-s-then-filled-ge56.ensures, one, k, two_blocks_from h m)
+          rw (c.digest.ensures, w.s-is, w.compress-s-then-filled-ge56.ensures, one, k, two_blocks_from h m)
       | else-filled-ge56 w ↦
           let k : (a.filled + 72) / 64 ≡ 1 = omega arith in
-          rw (c.digest_of.ensures, w.s-is, one, k, one_block_from h m)
+          rw (c.digest.ensures, w.s-is, one, k, one_block_from h m)
     ]

@@ -4,4 +4,4 @@ use Rattle.sampling.proofs.sha256.Hasher.new.Goals as goal
 
 pub returns : goal.returns
 unfolding new_hasher
-returns c = rw c.start.ensures
+returns c = rw c.initial.ensures
