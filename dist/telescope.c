@@ -3465,8 +3465,14 @@ static uint32_t centralized_telescope_errors_U32FromRefusal_from(struct centrali
         l2 = UINT32_C(47);
         break;
     case UINT8_C(16):
-    default:
         l2 = UINT32_C(48);
+        break;
+    case UINT8_C(17):
+        l2 = UINT32_C(49);
+        break;
+    case UINT8_C(18):
+    default:
+        l2 = UINT32_C(50);
         break;
     }
     l0 = l2;

@@ -9,7 +9,7 @@ usage: harness compare [--cases N] [--seed S]
        harness sizes --minutes N | --seconds N | --turns N [--seed S]
        harness model [--functions N] [--seed S]
        harness answers [--seed S]
-       harness bench [--steps | --tickets | --distinctness | --sizes | --pools | --prepare | --products]
+       harness bench [--steps | --tickets | --distinctness | --sizes | --pools | --prepare | --products | --counts]
        harness stack
        harness --help
 
@@ -19,7 +19,8 @@ compare   Runs the verified library and the original Rust on the same inputs and
               messages to hash, N / 20 of the small case, N / 10 lists for distinctness, N / 10 small searches, N / 20 by X, N / 100 bad
               inputs for each of prover and verifier, N / 50 lists for tickets, each with five changed tickets, N / 1000 with each wrong
               number of blocks, N / 200 searches with what was planned, N / 40 security figures, N / 400 times two lists pooled, N / 400
-              runs prepared and committed, N / 20 pairs of bounds, and N / 1000 lists with a bin table for two (default 2000000)
+              runs prepared and committed, N / 20 pairs of bounds, N / 1000 lists with a bin table for two, and N / 20 calls for the
+              chains of each length (default 2000000)
   --seed S    decimal, or hexadecimal after 0x (default: from the clock; it is printed)
           It ends with a line of counts, or with the first case that differs and status 1.
 
@@ -60,8 +61,10 @@ bench     Prints a Markdown table of speeds: the library, the Rust and OpenSSL, 
   --pools     the time of pooling and of searches over a pool alone
   --prepare   the speed of prepare alone
   --products  the time of two products on one bin table alone
+  --counts    the time of the chains of one S counted alone
 
-stack     Says how much stack a search of the greatest length takes, on a list and over a pool of two full lists.
+stack     Says how much stack a search of the greatest length takes, on a list and over a pool of two full lists, and the count of as deep a
+          tree.
 ";
 
 pub struct Compare {
@@ -108,12 +111,13 @@ pub struct Deep {
     pub by: Call,
 }
 
-/// The call that searches: on a list, over the pool of two full lists, or for two parties on one bin table.
+/// The call that searches: on a list, over the pool of two full lists, or for two parties on one bin table; or that counts a tree.
 #[derive(Clone, Copy, Debug, PartialEq)]
 pub enum Call {
     Prove,
     ProvePool,
     TwoProducts,
+    CountChains,
 }
 
 pub enum Bench {
@@ -132,6 +136,8 @@ pub enum Bench {
     Prepare,
     /// Two products on one bin table.
     Products,
+    /// The chains of one search counter.
+    Counts,
     /// The rows for one of OpenSSL's other settings, for which the benchmark starts itself again.
     #[cfg_attr(not(feature = "bench"), allow(dead_code))]
     OpenSsl(usize),
@@ -145,6 +151,7 @@ pub const AGAIN: &str = "--openssl-setting";
 pub const SEARCH: &str = "--search";
 pub const POOL_SEARCH: &str = "--pool-search";
 pub const PARTIES_SEARCH: &str = "--parties-search";
+pub const COUNT: &str = "--count";
 
 pub fn parse(mut words: impl Iterator<Item = String>) -> Result<Command, String> {
     match words.next().as_deref() {
@@ -167,6 +174,7 @@ fn stack(mut words: impl Iterator<Item = String>) -> Result<Option<Deep>, String
         Some(SEARCH) => Call::Prove,
         Some(POOL_SEARCH) => Call::ProvePool,
         Some(PARTIES_SEARCH) => Call::TwoProducts,
+        Some(COUNT) => Call::CountChains,
         Some(word) => return Err(format!("stack has no `{word}`")),
     };
     let depth = words.next().and_then(|word| word.parse().ok()).ok_or("the length of a search is wanted")?;
@@ -183,6 +191,7 @@ fn bench(mut words: impl Iterator<Item = String>) -> Result<Bench, String> {
         Some("--pools") => Bench::Pools,
         Some("--prepare") => Bench::Prepare,
         Some("--products") => Bench::Products,
+        Some("--counts") => Bench::Counts,
         Some(AGAIN) => Bench::OpenSsl(words.next().and_then(|word| word.parse().ok()).ok_or("a setting's number is wanted")?),
         Some(word) => return Err(format!("bench has no `{word}`")),
     };
@@ -321,6 +330,7 @@ mod tests {
         assert_eq!((stack("stack"), stack("stack --search 3")), (None, Some(Deep { depth: 3, by: Call::Prove })));
         assert_eq!(stack("stack --pool-search 1024"), Some(Deep { depth: 1024, by: Call::ProvePool }));
         assert_eq!(stack("stack --parties-search 0"), Some(Deep { depth: 0, by: Call::TwoProducts }));
+        assert_eq!(stack("stack --count 7"), Some(Deep { depth: 7, by: Call::CountChains }));
         assert_eq!(why_not("stack --pool-search"), "the length of a search is wanted");
     }
 

@@ -91,6 +91,13 @@ extern "C" {
         set_size2: u64, proof_size2: u64, max_retries2: u64, search_width2: u64, dfs_bound2: u64, x_high2: u64, x_low2: u64, retry2: u64,
         places: *mut u32, places_len: usize, places2: *mut u32, places2_len: usize, out: *mut u64, out_len: usize,
     ) -> u32;
+    fn alba_count_chains(
+        set_size: u64, proof_size: u64, max_retries: u64, search_width: u64, dfs_bound: u64, x_high: u64, x_low: u64,
+        retry: u64, search: u64,
+        data: *const u8, data_len: usize, ends: *const u32, ends_len: usize,
+        marks: *const u8, marks_len: usize, indexes: *const u64, indexes_len: usize,
+        bins: *mut u32, bins_len: usize, counts: *mut u64, counts_len: usize, out: *mut u64, out_len: usize,
+    ) -> u32;
 }
 
 /// set_size is out of range.
@@ -149,6 +156,10 @@ pub const RUN_CHANGED: u32 = 46;
 pub const OTHER_RETRY: u32 = 47;
 /// A bin table that isn't the one of the list, the set size and the retry counter.
 pub const OTHER_TABLE: u32 = 48;
+/// Fewer counts lent than there are lengths.
+pub const COUNTS_SHORT: u32 = 49;
+/// More chains than dfs_bound.
+pub const TREE_TOO_LARGE: u32 = 50;
 /// The most bytes that the four strings of a hash may have together.
 pub const LONGEST: usize = 1 << 29;
 
@@ -496,6 +507,31 @@ pub fn two_products(
             s.set_size, s.proof_size, s.max_retries, s.search_width, s.dfs_bound, x_high, x_low, retry,
             s2.set_size, s2.proof_size, s2.max_retries, s2.search_width, s2.dfs_bound, x_high2, x_low2, retry2,
             places, places_len, places2, places2_len, out, out_len,
+        )
+    }
+}
+
+/// `BAD_LENGTH` (out not of one number) with nothing written; else 0 with the chains of each length in the first proof_size + 1 counts and
+/// those that pass in `out`, or the number of the refusal with a 0 there. The bin table is filled with 0 and with `TREE_TOO_LARGE`.
+#[rustfmt::skip]
+pub fn count_chains(
+    s: &Settings,
+    [retry, search]: [u64; 2],
+    list: Listed<u32, u64>,
+    bins: &mut (impl Place<u32> + ?Sized),
+    counts: &mut (impl Place<u64> + ?Sized),
+    out: &mut (impl Place<u64> + ?Sized),
+) -> u32 {
+    let ((data, data_len), (ends, ends_len)) = (parts(list.data), parts(list.ends));
+    let ((marks, marks_len), (indexes, indexes_len)) = (parts(list.marks), parts(list.indexes));
+    let ((bins, bins_len), (counts, counts_len), (out, out_len)) = (bins.parts(), counts.parts(), out.parts());
+    let [x_high, x_low] = threshold::halves(s.x.x());
+    // SAFETY: each pointer is valid for its length, those of the list for reads and the last three for reads and writes.
+    unsafe {
+        alba_count_chains(
+            s.set_size, s.proof_size, s.max_retries, s.search_width, s.dfs_bound, x_high, x_low, retry, search,
+            data, data_len, ends, ends_len, marks, marks_len, indexes, indexes_len,
+            bins, bins_len, counts, counts_len, out, out_len,
         )
     }
 }

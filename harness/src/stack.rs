@@ -3,7 +3,7 @@
 //! Each search runs in a process of its own, on its first thread, whose stack the system limits and below which it leaves a wide gap:
 //! beyond its limit a process is always stopped.
 
-use crate::args::{Call, Deep, PARTIES_SEARCH, POOL_SEARCH, SEARCH};
+use crate::args::{Call, Deep, COUNT, PARTIES_SEARCH, POOL_SEARCH, SEARCH};
 use crate::{ffi, ffi::Party, ffi::Settings, list::List, model::rules::ELEMENTS, model::threshold::Threshold::OfQ};
 use std::process::{Command, Stdio};
 
@@ -23,6 +23,7 @@ pub fn run(one: Option<Deep>) -> Result<(), String> {
         (Call::Prove, "a search"),
         (Call::ProvePool, "a search over the pool of two full lists"),
         (Call::TwoProducts, "two parties' tries on one bin table"),
+        (Call::CountChains, "a tree counted, with chains"),
     ];
     for (by, what) in calls {
         let (least, most) = (least_limit(Deep { depth: 0, by })?, least_limit(Deep { depth: DEEPEST, by })?);
@@ -42,6 +43,7 @@ fn search(deep: Deep) -> Result<(), String> {
     let (mut places, mut table, mut out) = (vec![1; depth as usize], [0; 4], [0; 3]);
     let answer = match deep.by {
         Call::TwoProducts => return parties(&Party { settings, retry_counter: 1 }, &list, places),
+        Call::CountChains => return count(&settings, &list),
         Call::ProvePool => ffi::prove_pool(&settings, list.lent(), list.lent(), &mut places[..], &mut table[..], &mut out[..]),
         Call::Prove => ffi::prove(&settings, list.lent(), &mut places[..], &mut table[..], &mut out[..]),
     };
@@ -61,6 +63,17 @@ fn parties(party: &Party, list: &List, mut places: Vec<u32>) -> Result<(), Strin
     let count = party.settings.proof_size + 1;
     if answer != 0 || out != [0, 0, count, 0, 0, count] || places.iter().chain(&places2).any(|place| *place != 0) {
         return Err(format!("harness: the parties' tries of length {} came to {answer}, {out:?}", count - 1));
+    }
+    Ok(())
+}
+
+/// The same chains, counted: one of each length, and the longest passes.
+fn count(settings: &Settings, list: &List) -> Result<(), String> {
+    let (depth, mut table, mut out) = (settings.proof_size, [0; 4], [7]);
+    let mut counts = vec![7; depth as usize + 1];
+    let answer = ffi::count_chains(settings, [1, 0], list.lent(), &mut table[..], &mut counts[..], &mut out[..]);
+    if answer != 0 || out != [1] || table != ONE_BIN || counts.iter().any(|count| *count != 1) {
+        return Err(format!("harness: the count of a tree with chains of length {depth} came to {answer}, {out:?}"));
     }
     Ok(())
 }
@@ -88,6 +101,7 @@ fn ends_well(deep: Deep, kilobytes: u64) -> Result<bool, String> {
         Call::Prove => SEARCH,
         Call::ProvePool => POOL_SEARCH,
         Call::TwoProducts => PARTIES_SEARCH,
+        Call::CountChains => COUNT,
     };
     command.arg(myself).args(["stack", which, &deep.depth.to_string()]).stdout(Stdio::null()).stderr(Stdio::null());
     command.status().map(|status| status.success()).map_err(|e| format!("harness: /bin/sh: {e}"))

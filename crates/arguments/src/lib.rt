@@ -10,5 +10,5 @@ mod settings;
 mod words;
 
 pub use argument::Argument;
-pub use settings::{Figures, PastLimits, Reading};
+pub use settings::{Figures, PastLimits, Reading, say_settings};
 pub use words::{count, is_word, say_argument};

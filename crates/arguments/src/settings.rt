@@ -149,3 +149,22 @@ impl Figures {
         of_small_case(rt, self.set_size, u, whole_double(self.completeness))
     }
 }
+
+// Says settings, one after the other.
+pub fn say_settings(rt: &impl Print, p: Params) {
+    let Params {
+        set_size,
+        proof_size,
+        max_retries,
+        search_width,
+        dfs_bound,
+        x,
+    } = p;
+    let (high, low) = (x.hi, x.lo);
+    let _ = print!(rt;
+        "settings: set size {set_size}, proof size {proof_size}, tries up to {max_retries}"
+    );
+    let _ = println!(rt;
+        ", search width {search_width}, step bound {dfs_bound}, X {high:016x}{low:016x}"
+    );
+}

@@ -24,6 +24,8 @@ mod RaisedDigests
 mod RaisedExampleHolds
 mod TwoProductsHold
 mod PartiesExampleHolds
+mod ShapeHolds
+mod ShapeExampleHolds
 -- round.rt
 mod RoundHashes
 -- bins.rt; BinCounting sort.rt too
@@ -72,6 +74,9 @@ mod ElementWriting
 -- preparing.rt
 mod RunHashing
 mod PrepareAnswers
+-- shape.rt
+mod Tallying
+mod ShapeAnswers
 -- products.rt
 mod PartyAnswers
 -- ticket.rt

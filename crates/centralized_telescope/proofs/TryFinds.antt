@@ -22,11 +22,11 @@ up_to_transitive a b c (inr p) (inr q) = inr (before_transitive a b c p q)
 module _ (T : Try) where
   -- ---- a listed chain passes exactly when the test says yes
 
-  is_passing : (c : Chain) → Passes T c → passing T c ≡ true
+  pub is_passing : (c : Chain) → Passes T c → passing T c ≡ true
   unfolding passing
   is_passing c p = rw (eq-eqb (length c.places) T.settings.proof_size p.exactly) p.yes
 
-  passing_is : (c : Chain) → passing T c ≡ true
+  pub passing_is : (c : Chain) → passing T c ≡ true
       → (length c.places ≡ T.settings.proof_size) × (says_yes T.settings.x c.last ≡ true)
   unfolding passing
   passing_is c e = go (eqb (length c.places) T.settings.proof_size) refl e

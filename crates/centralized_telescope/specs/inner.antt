@@ -10,6 +10,7 @@ pub mod BinPasses
 pub mod Walk
 pub mod TryTables
 pub mod Visit
+pub mod Tallies
 pub mod Ordering
 pub mod Sorting
 pub mod Pooling

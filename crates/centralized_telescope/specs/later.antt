@@ -6,6 +6,7 @@ pub mod SmallCase
 pub mod Distinct
 pub mod Pool
 pub mod TwoProducts
+pub mod Shape
 pub mod Buffers
 pub mod ProofList
 pub mod ElementBytes
@@ -21,4 +22,5 @@ pub mod ProofSize
 pub mod PoolClaims
 pub mod RaisingClaims
 pub mod TwoProductsClaims
+pub mod ShapeClaims
 pub mod AllCases

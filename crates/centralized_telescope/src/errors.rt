@@ -43,6 +43,10 @@ pub enum Refusal {
     OtherRetry,
     // a bin table that isn't the one for the list, the set size and its retry counter
     OtherTable,
+    // fewer counts than a chain has lengths
+    CountsShort,
+    // a tree of more chains than dfs_bound
+    TreeTooLarge,
 }
 
 // The number of a refusal.
@@ -68,6 +72,8 @@ impl From<Refusal> for u32 {
             Refusal::RunChanged => 46,
             Refusal::OtherRetry => 47,
             Refusal::OtherTable => 48,
+            Refusal::CountsShort => 49,
+            Refusal::TreeTooLarge => 50,
         }
     }
 }
@@ -107,6 +113,8 @@ impl fmt::Display for Refusal {
             Refusal::OtherRetry => "the retry counter is not the bin table's",
             Refusal::OtherTable =>
                 "the bin table is not the one for this list, set size and retry counter",
+            Refusal::CountsShort => "fewer counts than the proof size and one more",
+            Refusal::TreeTooLarge => "the tree has more chains than the bound",
         })
     }
 }

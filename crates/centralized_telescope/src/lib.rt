@@ -26,6 +26,7 @@ mod round;
 mod run;
 mod search;
 mod security;
+mod shape;
 mod sort;
 mod source;
 mod telescope;
@@ -48,15 +49,16 @@ pub use proof_list::write_proof;
 pub use round::{RetryCounter, SearchCounter};
 pub use search::{Search, proof_search_number};
 pub use security::proof_size;
+pub use shape::count_chains;
 pub use telescope::{prove, verify};
 pub use theorems::{
-    all_cases, blocks_counted, bytes_judged_alike, cases_served, change_noticed, demand_3,
-    distinct_exactly, first_layout_refused, found_example, last_alone, pair_proves, parties_apart,
-    parties_example, plan_needed, plan_suffices, pool_as_one_list, pool_guaranteed, proof_listed,
-    raised_answer, raised_example, raised_run, raised_try, runs_told, served_example,
-    size_never_falls, size_never_rises, size_one_answer, steps_not_passed, ticket_bounded,
-    ticket_fits, ticket_judged_alike, ticket_reads_back, ticket_writes_back, tickets_exactly,
-    tight_example, try_guaranteed, verdict_exactly,
+    all_cases, blocks_counted, bytes_judged_alike, cases_served, change_noticed, counts_exact,
+    demand_3, distinct_exactly, first_layout_refused, found_example, last_alone, pair_proves,
+    parties_apart, parties_example, passing_full, plan_needed, plan_suffices, pool_as_one_list,
+    pool_guaranteed, proof_listed, raised_answer, raised_example, raised_run, raised_try,
+    runs_told, served_example, shape_example, size_never_falls, size_never_rises, size_one_answer,
+    steps_not_passed, ticket_bounded, ticket_fits, ticket_judged_alike, ticket_reads_back,
+    ticket_writes_back, tickets_exactly, tight_example, totals_k, try_guaranteed, verdict_exactly,
 };
 pub use ticket::{TicketProof, read_ticket, stated_blocks, write_ticket};
 pub use types::check_list;

@@ -6,6 +6,7 @@ ghost use Rattle.centralized_telescope.specs.later.FoundExample.{FoundExample};
 ghost use Rattle.centralized_telescope.specs.later.VerdictExactly.{VerdictExactly};
 ghost use Rattle.centralized_telescope.specs.later.Distinct.{DistinctExactly};
 ghost use Rattle.centralized_telescope.specs.later.PoolClaims.{PoolAsOneList, PoolGuaranteed};
+ghost use Rattle.centralized_telescope.specs.later.ShapeClaims.{CountsExact, TotalsK, PassingFull, ShapeExample};
 ghost use Rattle.centralized_telescope.specs.later.RaisingClaims.{RaisedTry, RaisedRun, RaisedAnswer, RaisedExample};
 ghost use Rattle.centralized_telescope.specs.later.TwoProductsClaims.{PartiesApart, TryGuaranteed, LastAloneClaim, PartiesExample};
 ghost use Rattle.centralized_telescope.specs.later.FirstLayout.{FirstRefused};
@@ -206,4 +207,25 @@ pub fn runs_told()
 // A covered change that passes the checks gives 46, unless two byte strings have one digest.
 pub fn change_noticed()
     ensures { ChangeNoticed }
+{}
+
+// The counts of `count_chains` are the numbers of the chains that exist, length by length, and of those that pass; and 50 comes exactly where
+// more exist than dfs_bound.
+pub fn counts_exact()
+    ensures { CountsExact }
+{}
+
+// Summed over the search counters of a try in which nothing passes, they are its K.
+pub fn totals_k()
+    ensures { TotalsK }
+{}
+
+// No more chains pass than there are of proof_size places, and each that passes is one of these.
+pub fn passing_full()
+    ensures { PassingFull }
+{}
+
+// Trees with and without a chain that passes, and one under a bound that is one too low.
+pub fn shape_example()
+    ensures { ShapeExample }
 {}

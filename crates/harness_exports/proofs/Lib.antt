@@ -6,3 +6,4 @@ mod PlanAnswers
 mod PoolNumbers
 mod PrepareNumbers
 mod PartyNumbers
+mod ChainNumbers

@@ -14,6 +14,7 @@ use Rattle.centralized_telescope.specs.later.ProofSize.{SizeIs}
 use Rattle.centralized_telescope.specs.core.Prover.{Proved, proved}
 use Rattle.centralized_telescope.specs.later.Tickets.{TicketWritten, ticket_written, TicketRead, ticket_read}
 use Rattle.centralized_telescope.specs.later.TwoProducts.{both_tried}
+use Rattle.centralized_telescope.specs.later.Shape.{Shaped, shaped}
 use Rattle.centralized_telescope.specs.declared.params.Params.{Params}
 use Rattle.centralized_telescope.specs.declared.planning.Amounts.{Amounts}
 use Rattle.centralized_telescope.specs.declared.params.SmallSettings.{SmallSettings}
@@ -159,3 +160,12 @@ unfoldable pub exported_two_products : Lent → ℕ → List ℕ → Params → 
     → ℕ × List ℕ × List ℕ × List ℕ
 exported_two_products lent table_retry table p R places p' R' places' out =
     cond (eqb (length out) 6) (parties_served (both_tried lent table_retry table p R places p' R' places')) (8, places, places', out)
+
+-- ---- the chains of one search counter by their length
+
+-- the number, bin table and counts afterwards, and how many pass, 0 with a refusal, in the lent number; 8 with all as it was where that isn't
+-- one number
+unfoldable pub exported_count_chains : Params → ℕ → ℕ → Lent → List ℕ → List ℕ → List ℕ → ℕ × List ℕ × List ℕ × List ℕ
+exported_count_chains p R S lent bins counts out =
+    let r : Shaped = shaped p R S lent counts bins in
+    cond (eqb (length out) 1) (r.number, r.table, r.counts, with_first r.passing out) (8, bins, counts, out)

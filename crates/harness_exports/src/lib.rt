@@ -15,7 +15,7 @@ ghost use Rattle.harness_exports.specs.Exported.{with_first, exported_write_tick
 ghost use Rattle.harness_exports.specs.Exported.{exported_read_ticket, exported_plan};
 ghost use Rattle.harness_exports.specs.Exported.{ExportedSize, exported_prove_pool, exported_pool_size};
 ghost use Rattle.harness_exports.specs.Exported.{exported_pool_data, exported_prepare, exported_commit, parties_numbers};
-ghost use Rattle.harness_exports.specs.Exported.{exported_two_products};
+ghost use Rattle.harness_exports.specs.Exported.{exported_two_products, exported_count_chains};
 
 use centralized_telescope::{
     Buffers, Lent, Party, Refusal, RetryCounter, Search, SearchCounter, Shared, SmallSettings,
@@ -621,4 +621,58 @@ pub fn alba_two_products(
         out,
     );
     0
+}
+
+// The chains of one retry counter and one search counter by their length: 0 with the counts in the first proof_size + 1 lent ones and the
+// number that pass in `out`, or the number with a 0 there; 8 with nothing done or written where `out` isn't one number. The bin table is
+// the try's with 0 and with 50.
+pub fn alba_count_chains(
+    set_size: u64,
+    proof_size: u64,
+    max_retries: u64,
+    search_width: u64,
+    dfs_bound: u64,
+    x_high: u64,
+    x_low: u64,
+    retry: u64,
+    search: u64,
+    data: &[u8],
+    ends: &[u32],
+    marks: &[u8],
+    indexes: &[u64],
+    bins: &mut [u32],
+    counts: &mut [u64],
+    out: &mut [u64],
+) -> u32
+    ensures { (result, bins.new, counts.new, out.new)
+        ≡ exported_count_chains (settings_of set_size proof_size max_retries search_width dfs_bound x_high x_low) retry search
+        (lent_at_entry «data» ends marks indexes) bins.old counts.old out.old }
+{
+    if out.len() != 1 {
+        return 8;
+    }
+    let p = settings_of(
+        set_size,
+        proof_size,
+        max_retries,
+        search_width,
+        dfs_bound,
+        x_high,
+        x_low,
+    );
+    let list = Lent {
+        data,
+        ends,
+        marks,
+        indexes,
+    };
+    let answer = centralized_telescope::count_chains(
+        p,
+        RetryCounter(retry),
+        SearchCounter(search),
+        list,
+        bins,
+        counts,
+    );
+    put_size(answer, out)
 }

@@ -12,7 +12,7 @@ ghost use Rattle.harness_exports.specs.Exported.{exported_prove, exported_write_
 ghost use Rattle.harness_exports.specs.Exported.{exported_read_ticket, exported_plan};
 ghost use Rattle.harness_exports.specs.Exported.{ExportedSize, exported_prove_pool, exported_pool_size};
 ghost use Rattle.harness_exports.specs.Exported.{exported_pool_data, exported_prepare, exported_commit};
-ghost use Rattle.harness_exports.specs.Exported.{exported_two_products};
+ghost use Rattle.harness_exports.specs.Exported.{exported_two_products, exported_count_chains};
 
 // SHA-256 of four strings joined into 32 lent bytes: 0 with the digest, 9 with zeros, or 8 with nothing written where `out`
 // isn't 32 bytes.
@@ -410,6 +410,52 @@ pub extern "C" fn alba_two_products(
         retry2,
         places,
         places2,
+        out,
+    )
+}
+
+// The chains of one retry counter and one search counter by their length: 0 with the counts in the first proof_size + 1 lent ones and the
+// number that pass in `out`, or the number with a 0 there; 8 with nothing done or written where `out` isn't one number. The bin table is
+// the try's with 0 and with 50.
+#[unsafe(no_mangle)]
+pub extern "C" fn alba_count_chains(
+    set_size: u64,
+    proof_size: u64,
+    max_retries: u64,
+    search_width: u64,
+    dfs_bound: u64,
+    x_high: u64,
+    x_low: u64,
+    retry: u64,
+    search: u64,
+    data: &[u8],
+    ends: &[u32],
+    marks: &[u8],
+    indexes: &[u64],
+    bins: &mut [u32],
+    counts: &mut [u64],
+    out: &mut [u64],
+) -> u32
+    ensures { (result, bins.new, counts.new, out.new)
+        ≡ exported_count_chains (settings_of set_size proof_size max_retries search_width dfs_bound x_high x_low) retry search
+        (lent_at_entry «data» ends marks indexes) bins.old counts.old out.old }
+{
+    harness_exports::alba_count_chains(
+        set_size,
+        proof_size,
+        max_retries,
+        search_width,
+        dfs_bound,
+        x_high,
+        x_low,
+        retry,
+        search,
+        data,
+        ends,
+        marks,
+        indexes,
+        bins,
+        counts,
         out,
     )
 }

@@ -16,4 +16,4 @@ pub use elements_file::{Unread, read_elements};
 pub use list::{ElementList, FullRoom, ListRoom, first, first_elements};
 pub use opening::{is_taken, open_or_say};
 pub use proof_file::{Counters, is_proof_written, read_proof};
-pub use report::say_of_file;
+pub use report::{kept, say_elements, say_of_file};

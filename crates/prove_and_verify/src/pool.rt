@@ -1,8 +1,9 @@
 // A proof over the elements of two files: the first file's, and behind them those of the second that equal none of these.
 use crate::both_files::Sizes;
 use crate::{both_files, repeats, search, write_and_verify};
+use arguments::say_settings;
 use centralized_telescope::{Lent, Params, Refusal, Search};
-use proof_files::{FullRoom, Unread, first, is_taken};
+use proof_files::{FullRoom, Unread, first, is_taken, kept};
 use std::rt::Files;
 use text::say::say;
 
@@ -21,7 +22,7 @@ fn say_read(rt: &impl Print, name: &[u8], n: usize) {
 
 // Says what was read of each file, whether two of its elements are the same, and what the pool has.
 fn say_task(rt: &impl Print, p: Params, names: Names, list: Lent, second: Lent) {
-    search::say_settings(rt, p);
+    say_settings(rt, p);
     let n = list.ends.len();
     say_read(rt, names.elements, n);
     let _ = println!(rt);
@@ -32,7 +33,7 @@ fn say_task(rt: &impl Print, p: Params, names: Names, list: Lent, second: Lent) 
         let added = size.saturating_sub(n);
         let _ = println!(rt; ", added {added}");
         repeats::say_repeats(rt, names.second, second);
-        let kept = search::kept(size, p.set_size);
+        let kept = kept(size, p.set_size);
         let _ = println!(rt; "pool: elements {size}, kept for the search {kept}");
     } else {
         let _ = println!(rt);

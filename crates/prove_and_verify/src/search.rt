@@ -2,11 +2,11 @@
 ghost use Rattle.std.specs.Prelude.{◌≡◌, length};
 
 use crate::{repeats, write_and_verify};
+use arguments::say_settings;
 use centralized_telescope::{Lent, Params, Refusal, RetryCounter, Search, SearchCounter};
 use outcomes::{say_outcome, say_refused};
-use proof_files::{Counters, FullRoom, first, is_taken};
+use proof_files::{Counters, FullRoom, first, is_taken, say_elements};
 use std::rt::Files;
-use text::say::say;
 
 // Room for the bin table of the largest set size. A function of its own: its caller's proof then sees a length, and not that many numbers.
 // The library has such a function for a table that it builds itself. It is private, since its users lend the table, in a room of their own.
@@ -14,11 +14,6 @@ pub fn table_room() -> [u32; 98305]
     ensures { 98305 ≡ length result }
 {
     [0; 98305]
-}
-
-// How many of n elements the search keeps: the first 2 * set_size.
-pub fn kept(n: usize, set_size: u64) -> u64 {
-    (n as u64).min(set_size.saturating_mul(2))
 }
 
 pub fn say_found(rt: &impl Print, counters: Counters, count: u64, places: &[u32]) {
@@ -88,29 +83,9 @@ fn search(
     }
 }
 
-pub fn say_settings(rt: &impl Print, p: Params) {
-    let Params {
-        set_size,
-        proof_size,
-        max_retries,
-        search_width,
-        dfs_bound,
-        x,
-    } = p;
-    let (high, low) = (x.hi, x.lo);
-    let _ = print!(rt;
-        "settings: set size {set_size}, proof size {proof_size}, tries up to {max_retries}"
-    );
-    let _ = println!(rt;
-        ", search width {search_width}, step bound {dfs_bound}, X {high:016x}{low:016x}"
-    );
-}
-
-fn say_task(rt: &impl Print, p: Params, elements: &[u8], n: usize) {
+pub fn say_task(rt: &impl Print, p: Params, elements: &[u8], n: usize) {
     say_settings(rt, p);
-    say(rt, elements);
-    let kept = kept(n, p.set_size);
-    let _ = println!(rt; ": elements read {n}, kept for the search {kept}");
+    say_elements(rt, elements, n, p.set_size);
 }
 
 // Reads the file of elements into the room, and says what a search over them is and whether two elements are the same, which the prover

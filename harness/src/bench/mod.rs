@@ -3,6 +3,7 @@
 //! All work on the same buffers, which are filled once and not cleared between calls. The library is called by its C exports and
 //! OpenSSL by its C functions; the Rust is another crate, of which the compiler may inline what it likes, as for any user.
 
+mod counts;
 mod distinctness;
 mod measure;
 mod openssl;
@@ -41,6 +42,7 @@ pub fn run(part: Bench) -> Result<(), String> {
         Bench::Pools => pools::run(),
         Bench::Prepare => prepare::run(),
         Bench::Products => products::run(),
+        Bench::Counts => counts::run(),
         _ => whole(),
     }
 }
@@ -59,9 +61,10 @@ fn whole() -> Result<(), String> {
     pools::run()?;
     prepare::run()?;
     products::run()?;
+    counts::run()?;
     println!("\nThe ratio is of speeds: 1.00 is as fast, above it faster. Times are the thread's own; times and ratios are medians of {ROUNDS} rounds,");
     println!(
-        "of {} for elements of 4,096 bytes, pools and two products, of searches over their seeds; where nothing is found it is one search.",
+        "of {} for elements of 4,096 bytes, pools, two products and chains counted, of searches over their seeds; where nothing is found it is one search.",
         distinctness::FEW
     );
     Ok(())

@@ -1,11 +1,11 @@
 //! Each export with arguments whose answer is known, made by the library and worked out by the Rust, the specification's table and words
 //! and the harness's own tickets and sizes. Those for two lists pooled are in pool_calls.rs, those for prepare and commit in
-//! prepare_calls.rs, those for two products in product_calls.rs.
+//! prepare_calls.rs, those for two products in product_calls.rs, that for the chains of each length in count_calls.rs.
 
 use super::parameters::Args;
 use super::searches::Outcome;
 use super::verdicts::{self, Claim};
-use super::{plan, pool_calls, prepare_calls, product_calls, searches, small_case, threshold, verifier_refusals};
+use super::{count_calls, plan, pool_calls, prepare_calls, product_calls, searches, small_case, threshold, verifier_refusals};
 use crate::model::{chains, rules};
 use crate::{
     ffi,
@@ -38,9 +38,9 @@ pub const SEED: u64 = 0x43_c389_a516;
 pub fn all() -> Result<Vec<Export>, String> {
     let (samplers, tickets) = ([uniform(), bernoulli(), converter(), hash(), small()], [write_ticket(), read_ticket(), stated_blocks()]);
     let searches = [distinct(), prove()?, verify()?];
-    let (pools, prepared, products) = (pool_calls::all()?, prepare_calls::all()?, product_calls::all()?);
+    let (pools, prepared, products, counted) = (pool_calls::all()?, prepare_calls::all()?, product_calls::all()?, count_calls::all()?);
     let before = samplers.into_iter().chain(searches).chain(tickets).chain([plan(), size()]);
-    Ok(before.chain(pools).chain(prepared).chain(products).collect())
+    Ok(before.chain(pools).chain(prepared).chain(products).chain([counted]).collect())
 }
 
 /// Parameters: h, n, out.

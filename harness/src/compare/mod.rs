@@ -5,8 +5,11 @@ pub mod bernoulli;
 pub mod block_counts;
 pub mod blocks;
 mod by_x;
+pub mod chain_checks;
+pub mod chain_counts;
 mod changed_runs;
 mod changed_tickets;
+mod count_calls;
 mod damaged_tables;
 pub mod distinct;
 mod export_calls;
@@ -54,7 +57,7 @@ type Kind = fn(&mut Run, u64) -> Checked;
 
 pub fn run(options: &Compare) -> Checked {
     println!("seed 0x{:016x}, {} random cases", options.seed, options.cases);
-    let kinds: [(&str, Kind, u64); 25] = [
+    let kinds: [(&str, Kind, u64); 26] = [
         ("orders of parameters", parameters::run, 0),
         ("uniform", uniform::run, options.cases),
         ("threshold", threshold::run, options.cases),
@@ -80,6 +83,7 @@ pub fn run(options: &Compare) -> Checked {
         ("prepare and commit", prepare::run, options.cases / 400),
         ("raised bounds", raised::run, options.cases / 20),
         ("two products", products::run, options.cases / 1000),
+        ("chain counts", chain_counts::run, options.cases / 20),
     ];
     let (mut counts, mut parts) = (Vec::new(), String::new());
     for (stream, (name, kind, cases)) in (0..).zip(kinds) {

@@ -6,14 +6,14 @@ mod turns;
 
 use crate::args::Load;
 use crate::compare::blocks::{self, Block, Tally};
-use crate::compare::{block_counts, planned, planted, pool, prepare, products, Checked};
+use crate::compare::{block_counts, chain_counts, planned, planted, pool, prepare, products, Checked};
 use std::panic::{self, AssertUnwindSafe};
 use std::sync::{Mutex, MutexGuard, PoisonError};
 use std::thread;
 use std::time::{Duration, Instant};
 
 /// The exported calls, as the tallies name them; that for two products by each party's answers.
-const CALLS: [&str; 20] = [
+const CALLS: [&str; 21] = [
     "uniform",
     "Bernoulli",
     "threshold",
@@ -34,9 +34,12 @@ const CALLS: [&str; 20] = [
     "commit",
     "first party",
     "second party",
+    "count chains",
 ];
 /// How often a line says how far it is.
 const EVERY: Duration = Duration::from_secs(10);
+/// Where a kind hasn't come when the time is over, turns go on for so many times as long at most: on a busy machine fewer come in a minute.
+const PATIENCE: u32 = 5;
 
 /// What has been shared out, and what came of it.
 struct Shared {
@@ -46,7 +49,7 @@ struct Shared {
     running: usize,
     tally: Tally,
     /// How often each kind of list for distinctness, of what is planned, of security figures, of tickets by their number of blocks, of two
-    /// lists, of a run's changes and of tables and parties came.
+    /// lists, of a run's changes, of tables and parties and of trees came.
     seen: Tally,
     failed: Checked,
 }
@@ -55,9 +58,12 @@ pub fn run(options: &Load) -> Checked {
     let Load { time, seed, threads, turn } = *options;
     println!("seed 0x{seed:016x}, threads {threads}");
     let started = Instant::now();
-    let is_time = || turn.is_some() || started.elapsed() < time;
     let (next, end) = turn.map_or((0, u64::MAX), |turn| (turn, turn + 1));
     let shared = Mutex::new(Shared { next, end, running: threads, tally: Tally::default(), seen: Tally::default(), failed: Ok(()) });
+    let is_time = || {
+        let past = started.elapsed();
+        turn.is_some() || past < time || (past < time * PATIENCE && lock(&shared).seen.none_missing(kinds()).is_err())
+    };
     let worker = || {
         while let Some(number) = take(&shared, is_time()) {
             let (block, done) = run_turn(seed, number);
@@ -73,12 +79,16 @@ pub fn run(options: &Load) -> Checked {
     ended.failed?;
     print!("{}{}", table(&ended.tally), ended.seen.lines("kinds"));
     if turn.is_none() {
-        let before = planted::kinds().chain(planned::kinds()).chain(block_counts::kinds()).chain(pool::kinds());
-        let kinds = before.chain(prepare::kinds()).chain(products::kinds());
-        ended.seen.none_missing(kinds).map_err(|why| format!("kinds: FAILED (seed 0x{seed:016x})\n{why}"))?;
+        ended.seen.none_missing(kinds()).map_err(|why| format!("kinds: FAILED (seed 0x{seed:016x})\n{why}"))?;
     }
     println!("equal in all cases: {}", so_far(&ended.tally, started));
     Ok(())
+}
+
+/// What has to come, whatever the seed.
+fn kinds() -> impl Iterator<Item = (&'static str, Option<u32>)> {
+    let before = planted::kinds().chain(planned::kinds()).chain(block_counts::kinds()).chain(pool::kinds());
+    before.chain(prepare::kinds()).chain(products::kinds()).chain(chain_counts::kinds())
 }
 
 fn lock(shared: &Mutex<Shared>) -> MutexGuard<'_, Shared> {

@@ -5,8 +5,8 @@ use crate::compare::blocks::Block;
 use crate::compare::planned::{self, Planned};
 use crate::compare::planted::{NUMBERS, PLANTS, SHAPES};
 use crate::compare::{
-    bernoulli, block_counts, distinct, faults, hash, plan, pool, prepare, product_refusals, products, proof_size, prover_refusals,
-    refusals, searches, small_case, threshold, tickets, uniform, verdicts, verifier_refusals,
+    bernoulli, block_counts, chain_checks, chain_counts, distinct, faults, hash, plan, pool, prepare, product_refusals, products,
+    proof_size, prover_refusals, refusals, searches, small_case, threshold, tickets, uniform, verdicts, verifier_refusals,
 };
 use crate::compare::{Answered, Checked};
 use crate::model::rules::{BYTES, ELEMENTS, MOST};
@@ -16,7 +16,7 @@ use std::sync::{Mutex, PoisonError};
 type Turn = fn(&mut Block) -> Checked;
 
 /// Each with its name and how often it comes in its turn: so often that most turns take some hundredths or tenths of a second.
-const TURNS: [(&str, u64, Turn); 14] = [
+const TURNS: [(&str, u64, Turn); 15] = [
     ("samplers", 20_000, samplers),
     ("hash", 4000, hashes),
     ("small case", 10_000, small_cases),
@@ -31,6 +31,7 @@ const TURNS: [(&str, u64, Turn); 14] = [
     ("pools", 1, pools),
     ("prepare and commit", 1, prepared),
     ("two products", 1, two_products),
+    ("chain counts", 1, chains_counted),
 ];
 /// Once in so many turns the fullest lists come instead: they take seconds.
 const FULL_EACH: u64 = 1024;
@@ -249,6 +250,19 @@ fn two_products(block: &mut Block) -> Checked {
     (0..16).try_for_each(|_| products::any(block))
 }
 
+/// A tree from the whole domain and small ones, each with bounds around the number of its chains and with faults; and all of some tries.
+fn chains_counted(block: &mut Block) -> Checked {
+    let mut settings = draws::any_settings(&mut block.rng);
+    let len = up_to(&mut block.rng, 2 * settings.set_size);
+    let list = draws::any_list(&mut block.rng, len as usize);
+    draws::keep_within(&mut block.rng, &mut settings, &list, 1 << 12);
+    let asked = chain_counts::any_tree(&mut block.rng, settings, list);
+    chain_counts::check_tree(block, &asked)?;
+    (0..COPIES).try_for_each(|_| chain_counts::check_with_faults(block, asked.clone()))?;
+    chain_counts::some_tries(block)?;
+    (0..16).try_for_each(|_| chain_counts::any(block))
+}
+
 /// One at a time: each holds some hundred megabytes.
 static FULL: Mutex<()> = Mutex::new(());
 
@@ -270,6 +284,8 @@ fn full(block: &mut Block) -> Checked {
     let mut call = products::call(given.list.clone(), [settings, settings], 0);
     call.parties[1].retry_counter = 1;
     products::check_call(block, &call)?;
+    let asked = chain_counts::any_tree(&mut block.rng, settings, given.list.clone());
+    chain_checks::check(block, &asked)?;
     let claim = verdicts::Claim { list: given.list, ..draws::any_claim(&mut block.rng) };
     verdicts::check(block, &claim)?;
     verifier_refusals::check_with_faults(block, &claim)

@@ -22,6 +22,8 @@ refusal_number refusal.PoolTooLarge = 45  -- 02, N8: the pool's size
 refusal_number refusal.RunChanged = 46  -- 02, N9: another digest
 refusal_number refusal.OtherRetry = 47  -- 02, N11: another retry counter than the table's
 refusal_number refusal.OtherTable = 48  -- 02, N11: another bin table
+refusal_number refusal.CountsShort = 49  -- 02, N12: too few counts lent
+refusal_number refusal.TreeTooLarge = 50  -- 02, N12: more chains than dfs_bound
 
 -- the number of an answer that is a refusal or something else, which counts as 0
 abbrev pub answer_number : {A : Type 0} → Result A Refusal → ℕ

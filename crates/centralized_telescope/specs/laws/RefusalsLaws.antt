@@ -25,6 +25,8 @@ refusal_number_lem refusal.PoolTooLarge e = omega arith
 refusal_number_lem refusal.RunChanged e = omega arith
 refusal_number_lem refusal.OtherRetry e = omega arith
 refusal_number_lem refusal.OtherTable e = omega arith
+refusal_number_lem refusal.CountsShort e = omega arith
+refusal_number_lem refusal.TreeTooLarge e = omega arith
 
 pub handed_on : {A : Type 0} (k : Refusal) (r : Result A Refusal) → IsErrAnd r (λ y. y ≡ k) → r ≡ Err k
 handed_on k r e = let met = err_from_is_err_and r e in met.1 ∙ ap Err met.2

@@ -187,13 +187,13 @@ module _ (T : Try) where
   start S = start_hash T.retry S
 
   -- a chain of the search counter S that exists
-  record Started (S : ℕ) (c : Chain) : Type 0 where
+  pub record Started (S : ℕ) (c : Chain) : Type 0 where
     pub search_is : c.search ≡ S
     pub at_most : length c.places ≤ T.settings.proof_size
     pub kept : Each Kept c.places
     pub rounds : ElementsExist T.settings T.retry S (at c.places) c.last
 
-  at_sound : (S : ℕ) (c : Chain) → Memᴰ c (chains_at T S) → Started S c
+  pub at_sound : (S : ℕ) (c : Chain) → Memᴰ c (chains_at T S) → Started S c
   unfolding chains_at grown
   at_sound S c m = go (id_of T (start S)) refl m
     where
@@ -209,14 +209,14 @@ module _ (T : Try) where
             rounds = (i, q, rw s.places_are s.grows);
           }
 
-  at_complete : (S : ℕ) (c : Chain) → Started S c → Memᴰ c (chains_at T S)
+  pub at_complete : (S : ℕ) (c : Chain) → Started S c → Memᴰ c (chains_at T S)
   unfolding chains_at grown
   at_complete S c s =
       rw s.rounds.1
       (Memᴰ.cast (ap (λ (x : ℕ). chain x c.places c.last) s.search_is)
       (complete S T.settings.proof_size (start S) s.rounds.0 [] c.places c.last s.at_most s.kept s.rounds.2))
 
-  at_sorted : (S : ℕ) → Ascending Before (chains_at T S)
+  pub at_sorted : (S : ℕ) → Ascending Before (chains_at T S)
   unfolding chains_at grown Ascending
   at_sorted S = go (id_of T (start S)) refl
     where
