@@ -1207,6 +1207,12 @@ static uint8_t centralized_telescope_types_some_mark_over(struct slice l1) {
     return l0;
 }
 
+/* centralized_telescope::Destruct++none::drop<centralized_telescope::exports::fn::find_in_bytes::find_in_ends+Self<slice<u8>>> */
+static void centralized_telescope_Destruct_none_drop_centralized_telescope_exports_fn_find_in_bytes_find_in_ends_Self_slice_u8(struct centralized_telescope_exports_fn_find_in_bytes_find_in_ends_Self_slice_u8 l1) {
+    (void)l1;
+    return;
+}
+
 /* centralized_telescope::numbers::number */
 static uint64_t centralized_telescope_numbers_number(struct slice l1, uint64_t l2, uint64_t l3) {
     uint64_t l0;
@@ -1266,12 +1272,6 @@ static uint64_t core_int_usize_saturating_sub(uint64_t l1, uint64_t l2) {
     return l0;
 }
 
-/* centralized_telescope::Destruct++none::drop<centralized_telescope::exports::fn::find_in_bytes::find_in_ends+Self<slice<u8>>> */
-static void centralized_telescope_Destruct_none_drop_centralized_telescope_exports_fn_find_in_bytes_find_in_ends_Self_slice_u8(struct centralized_telescope_exports_fn_find_in_bytes_find_in_ends_Self_slice_u8 l1) {
-    (void)l1;
-    return;
-}
-
 /* centralized_telescope::types::find_in_ends<centralized_telescope::exports::fn::find_in_bytes::find_in_ends+Self<slice<u8>>> */
 static struct centralized_telescope_types_EndsFound centralized_telescope_types_find_in_ends_centralized_telescope_exports_fn_find_in_bytes_find_in_ends_Self_slice_u8(uint64_t l1,
     struct centralized_telescope_exports_fn_find_in_bytes_find_in_ends_Self_slice_u8 l2, uint64_t l3) {
@@ -1281,25 +1281,30 @@ static struct centralized_telescope_types_EndsFound centralized_telescope_types_
     uint64_t l8;
     uint64_t l9;
     uint8_t l10;
-    unsigned char *l11;
-    uint64_t l12;
+    uint8_t l11;
+    uint8_t l12;
     uint8_t l13;
     uint8_t l14;
-    uint64_t l15;
+    unsigned char *l15;
     uint64_t l16;
-    uint64_t l17;
-    uint64_t l18;
-    uint8_t l19;
+    uint8_t l17;
+    uint8_t l18;
+    uint64_t l19;
     uint64_t l20;
     uint64_t l21;
     uint64_t l22;
     uint8_t l23;
-    uint8_t l24;
-    uint8_t l25;
-    uint8_t l26;
+    uint64_t l24;
+    uint64_t l25;
+    uint64_t l26;
+    uint8_t l27;
+    uint8_t l28;
+    uint8_t l29;
+    uint8_t l30;
     struct centralized_telescope_types_EndsFound l0;
     struct centralized_telescope_exports_fn_find_in_bytes_find_in_ends_Self_slice_u8 l4;
-    struct centralized_telescope_exports_fn_find_in_bytes_find_in_ends_Self_slice_u8 l27;
+    struct centralized_telescope_exports_fn_find_in_bytes_find_in_ends_Self_slice_u8 l31;
+    struct centralized_telescope_exports_fn_find_in_bytes_find_in_ends_Self_slice_u8 l33;
     l4 = l2;
     l5 = UINT64_C(0);
     l6 = 0;
@@ -1310,35 +1315,50 @@ static struct centralized_telescope_types_EndsFound centralized_telescope_types_
         if (!l10) {
             goto done_1;
         }
-        l11 = (unsigned char *)&l4;
-        l12 = l8;
-        l9 = centralized_telescope_exports_fn_find_in_bytes_find_in_ends_Fn_call(l11, l12);
-        l15 = l9;
-        l16 = l5;
-        l14 = (uint8_t)(l15 < l16);
-        if (!l14) {
-            l17 = l3;
-            l18 = l9;
-            l14 = (uint8_t)(l17 < l18);
+        l11 = l6;
+        if (l11) {
+            l11 = l7;
+            l12 = l11;
+            if (l12) {
+                l13 = l6;
+                l14 = l7;
+                l0 = (struct centralized_telescope_types_EndsFound){.f0 = l13, .f1 = l14};
+                l31 = l4;
+                centralized_telescope_Destruct_none_drop_centralized_telescope_exports_fn_find_in_bytes_find_in_ends_Self_slice_u8(l31);
+                return l0;
+                goto done_3;
+            }
         }
-        l13 = l14;
-        l19 = l6;
-        l6 = (uint8_t)(l19 | l13);
-        l21 = l9;
-        l22 = l5;
-        l20 = core_int_usize_saturating_sub(l21, l22);
-        l23 = (uint8_t)(UINT64_C(4096) < l20);
-        l24 = l7;
-        l7 = (uint8_t)(l24 | l23);
+        done_3:;
+        l15 = (unsigned char *)&l4;
+        l16 = l8;
+        l9 = centralized_telescope_exports_fn_find_in_bytes_find_in_ends_Fn_call(l15, l16);
+        l19 = l9;
+        l20 = l5;
+        l18 = (uint8_t)(l19 < l20);
+        if (!l18) {
+            l21 = l3;
+            l22 = l9;
+            l18 = (uint8_t)(l21 < l22);
+        }
+        l17 = l18;
+        l23 = l6;
+        l6 = (uint8_t)(l23 | l17);
+        l25 = l9;
+        l26 = l5;
+        l24 = core_int_usize_saturating_sub(l25, l26);
+        l27 = (uint8_t)(UINT64_C(4096) < l24);
+        l28 = l7;
+        l7 = (uint8_t)(l28 | l27);
         l5 = l9;
         l8 = (uint64_t)(l8 + UINT64_C(1));
     }
     done_1:;
-    l25 = l6;
-    l26 = l7;
-    l0 = (struct centralized_telescope_types_EndsFound){.f0 = l25, .f1 = l26};
-    l27 = l4;
-    centralized_telescope_Destruct_none_drop_centralized_telescope_exports_fn_find_in_bytes_find_in_ends_Self_slice_u8(l27);
+    l29 = l6;
+    l30 = l7;
+    l0 = (struct centralized_telescope_types_EndsFound){.f0 = l29, .f1 = l30};
+    l33 = l4;
+    centralized_telescope_Destruct_none_drop_centralized_telescope_exports_fn_find_in_bytes_find_in_ends_Self_slice_u8(l33);
     return l0;
 }
 

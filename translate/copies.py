@@ -3,7 +3,8 @@ Fewer copies of structs. MIR gives and takes each value by a local of its own, a
 most of the stack. Three things are done to the text of the C functions, to locals that are structs or arrays:
 
 - a local that is written once and read once, by a copy, goes: `l5 = l3; .. f(l5)` is `f(l3)`, if l3 isn't written between the two;
-- the same the other way round: `l5 = f(x); .. l3 = l5` is `l3 = f(x)`, if nothing between the two reads or writes l3;
+- the same the other way round: `l5 = f(x); .. l3 = l5` is `l3 = f(x)`, if nothing between the two reads or writes l3, and the second is done
+  each time behind the first, but for a return, and never without it;
 - a parameter that its function neither writes nor lends is lent to it: `f(l3)` is `f(&l3)`, if no caller lends l3 otherwise.
 
 A local whose address is taken is left as it is. translate/test_copies.py has what each of the three must do and must leave.
@@ -25,6 +26,8 @@ FIELD = re.compile(r"(struct \w+|\w+ ?\**) ?\w+(?:\[(\d+)\])?;")
 JUMP = re.compile(r"\bfor \(|\bgoto\b|:;$")
 # The same, and the end of a way.
 TURN = re.compile(r"\bfor \(|\bgoto\b|:;$|[{}]$|^ *\}|\bcase\b|\bdefault\b|\bbreak\b|\breturn\b")
+# Where an arm of a switch begins.
+ARM = re.compile(r"^ *(?:case\b|default:)")
 # What is smaller is passed in registers, or as cheaply.
 SMALL = 16
 BYTES = {"uint8_t": 1, "uint16_t": 2, "uint32_t": 4}
@@ -40,8 +43,27 @@ def written(line):
     return found and found[1]
 
 
+def depth(line):
+    """How far in a line stands: a half or an arm stands further in than its head, its end and each `case`."""
+    return len(line) - len(line.lstrip())
+
+
 def lent(lines):
     return set(re.findall(r"&(l\d+)\b", "\n".join(lines)))
+
+
+def arguments_in(text):
+    """The arguments that a text begins with, up to the parenthesis that ends them."""
+    found, within = [""], 0
+    for letter in text:
+        within += {"(": 1, "{": 1, ")": -1, "}": -1}.get(letter, 0)
+        if within < 0:
+            break
+        if letter == "," and within == 0:
+            found.append("")
+        else:
+            found[-1] += letter
+    return [part.strip() for part in found]
 
 
 class Function:
@@ -86,9 +108,26 @@ class Function:
             return False
         if any(JUMP.search(line) for line in self.lines[at[0]:at[1]]) or any(names(line, copy[1]) for line in self.lines[at[0]:at[1]]):
             return False
+        if not self.together(*at):
+            return False
         self.lines[at[0]] = re.sub(rf"\b{name}\b", copy[1], self.lines[at[0]])
         del self.lines[at[1]]
         return True
+
+    def together(self, write, copy):
+        """Whether the copy is made each time behind the write, but for a return between, and never without it: both stand in one half or
+        arm, or the copy stands behind a switch that no arm goes on from but the one that the write stands in."""
+        inside, outside = depth(self.lines[write]), depth(self.lines[copy])
+        if any(depth(line) < outside for line in self.lines[write:copy]):
+            return False
+        if inside == outside:
+            return True
+        labels = [i for i, line in enumerate(self.lines) if depth(line) == outside]
+        head = max((i for i in labels if i < write and not ARM.match(self.lines[i])), default=write)
+        arm_end = min(i for i in labels if i > write)
+        end = min(i for i in labels if i > write and not ARM.match(self.lines[i]))
+        goes_on = [i for i in range(head, end) if self.lines[i] == " " * inside + "break;"]
+        return inside == outside + 4 and self.lines[head].strip().startswith("switch (") and goes_on == [arm_end - 1]
 
     def fold(self):
         again = True
@@ -111,9 +150,9 @@ class Function:
     def calls(self, functions):
         """The calls in it: the line, the function called, the arguments."""
         for i, line in enumerate(self.lines):
-            found = re.search(r"\b(\w+)\(((?:l\d+|[^()]|\([^()]*\))*)\)+;?", line)
-            if found and found[1] in functions:
-                yield i, found[1], re.split(r", ", found[2])
+            for found in re.finditer(r"\b(\w+)\(", line):
+                if found[1] in functions:
+                    yield i, found[1], arguments_in(line[found.end():])
 
     def refused(self, functions, takes):
         """The parameters of others that can't be lent what this function passes."""

@@ -1,8 +1,9 @@
 #!/usr/bin/env python3
 """
-From the proved MIR of Rattle crates to one C99 file: `mir_to_c.py EXPORT.. < MIR > FILE.c`, where MIR is what rlib_mir.py prints of built
-libraries, and EXPORT the path of a function to be called from C. The functions that the exports reach are translated one by one, each
-statement by itself. Nothing is optimized but copies of structs (copies.py). What is not in the tables below ends the run with a message.
+From the proved MIR of Rattle crates to one C99 file: `mir_to_c.py [--copies] EXPORT.. < MIR > FILE.c`, where MIR is what rlib_mir.py prints
+of built libraries, and EXPORT the path of a function to be called from C. The functions that the exports reach are translated one by one,
+each statement by itself. Nothing is optimized but copies of structs (copies.py), and with --copies they stay too. What is not in the tables
+below ends the run with a message.
 
 MIR's grammar, and what each form becomes. The meaning of each is that of the kit's logic (Mir/Syntax, Mir/Val, Prog/Memory, Prog/Machine).
 
@@ -638,7 +639,7 @@ class File:
             found[path] = (function, text)
         return found
 
-    def whole(self):
+    def whole(self, changed=fewer):
         """What an export without a float reaches stands first, then what only one with a float does."""
         reached = sorted((self.reach(path, {}) for path in self.exports), key=has_float)
         first, last = {}, {}
@@ -651,7 +652,7 @@ class File:
         if last:
             text += "\n#ifndef ALBA_NO_DOUBLE\n#include <float.h>\n\n" + helpers(used_by(last) - used_by(first))
             text += "\n".join(body for _, body in last.values()) + "\n#endif\n"
-        return fewer(text)
+        return changed(text)
 
 
 def has_float(found):
@@ -663,9 +664,11 @@ def used_by(part):
 
 
 def main():
-    if len(sys.argv) < 2:
-        raise Stop("usage: mir_to_c.py EXPORT.. < MIR")
-    sys.stdout.write(File(sys.stdin.read(), sys.argv[1:]).whole())
+    copies = sys.argv[1:2] == ["--copies"]
+    exports = sys.argv[1 + copies:]
+    if not exports:
+        raise Stop("usage: mir_to_c.py [--copies] EXPORT.. < MIR")
+    sys.stdout.write(File(sys.stdin.read(), exports).whole(str if copies else fewer))
 
 
 if __name__ == "__main__":

@@ -207,6 +207,19 @@ class Whole(unittest.TestCase):
         self.assertEqual(list(texts), ["a::f", "a::g<u8>", "a::I::m", "a::g<u8>+2", "a::J::m"])
         self.assertEqual([texts["a::f"].count(f'"a::g<u8>{end}"') for end in ("", "+2")], [2, 1])
 
+    def test_an_impl_that_is_given_another(self):
+        """g<u8> is given I, which is given J or K: I's method calls the one that it was given, and the two are two."""
+        impls = [{"name": "a::I", "types": [{}], "bounds": [{}], "methods": ["a::I::m"]}] + [
+            {"name": f"a::{name}", "types": [], "bounds": [], "methods": [f"a::{name}::m"]} for name in "JK"]
+        calls = [call("a::g", [U8], [impl("a::I", [U8], [impl(f"a::{name}")])]) for name in "JK"]
+        items = [["a::f", item("Seq", *calls, impls=impls)], ["a::g", item(method({"Given": 0}, 0), params=1, bounds=1)],
+                 ["a::I::m", item(method({"Given": 0}, 0), params=1, bounds=1)], ["a::J::m", item("Return")], ["a::K::m", item("Return")]]
+        texts = self.printed(items, "a::f")
+        self.assertEqual(list(texts), ["a::f", "a::g<u8>", "a::I::m<u8>", "a::J::m", "a::g<u8>+2", "a::I::m<u8>+2", "a::K::m"])
+        for caller, called in (("a::g<u8>", "a::I::m<u8>"), ("a::g<u8>+2", "a::I::m<u8>+2"), ("a::I::m<u8>", "a::J::m"),
+                               ("a::I::m<u8>+2", "a::K::m")):
+            self.assertIn(f'(fnRef "{called}")', texts[caller])
+
     def test_functions_that_are_handed_over(self):
         for impls, name in ((["b::a++c++f+FnOnce"], "a::g<unit, a::c::f>"), (["b::Destruct++none", "a::fn::h::any+FnOnce"], "a::g<unit>"),
                             (["b::a++c++f+FnMut", "a::a++c++f+FnOnce", "a::a++e+Fn"], "a::g<unit, a::c::f, a::e>")):

@@ -19,17 +19,35 @@ use crate::sort::{compare, key_of, sort_places};
 use crate::source::Source;
 use crate::telescope::check_room;
 use crate::types::{MAX_ELEMENTS, accept};
+use std::cmp::Ordering;
 
 // ---- Which of the second list's places are added
 
-// Whether the element at a place of the second list equals one of the first, whose keys are lent sorted.
+// Whether the element at a place of the second list equals one of the first, whose keys are lent sorted. What is left of them is halved each
+// time. A loop of our own: the library's search looks at log n keys even if the first that it meets is the one, and the pool of a list with
+// few elements of another, or with one everywhere, would take so many times longer.
 fn stands_in(list: AcceptedList, keys: &[u64], list2: AcceptedList, place: usize) -> bool
     requires { Sorted (element_in list) (length list.ends.now) keys.now × (place < length list2.ends.now) }
     ensures { result ≡ some_of (same_element (element_in list2.entry place)) (elements (held list.entry)) }
 {
     let key = key_of(list2, place);
-    keys.binary_search_by(|other| compare(list, *other, list2, key))
-        .is_ok()
+    let mut low = 0;
+    let mut high = keys.len();
+    while low < high {
+        let middle = low + (high - low) / 2;
+        match compare(&list, keys[middle], &list2, key) {
+            Ordering::Less => {
+                low = middle + 1;
+            }
+            Ordering::Greater => {
+                high = middle;
+            }
+            Ordering::Equal => {
+                return true;
+            }
+        }
+    }
+    false
 }
 
 // Writes the places that are added, ascending: how many, or none where the pool has over 65,536 elements. The count is the answer too,

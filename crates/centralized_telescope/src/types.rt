@@ -32,7 +32,8 @@ pub struct EndsFound {
     pub long: bool,
 }
 
-// The faults of so many ends, each of which `end_at` gives by its place.
+// The faults of so many ends, each of which `end_at` gives by its place. Once both are found nothing more is read: how many there are isn't
+// bounded yet.
 pub fn find_in_ends<F: Fn(usize) -> usize>(count: usize, end_at: F, limit: usize) -> EndsFound
     ghost ends: { List ℕ }
     requires whole { length ends ≡ count }
@@ -45,6 +46,9 @@ pub fn find_in_ends<F: Fn(usize) -> usize>(count: usize, end_at: F, limit: usize
     let mut wrong = false;
     let mut long = false;
     for i in 0..count {
+        if wrong && long {
+            return EndsFound { wrong, long };
+        }
         let end = end_at(i);
         wrong |= end < from || limit < end;
         long |= MAX_DATA_BYTES < end.saturating_sub(from);

@@ -2,7 +2,7 @@
 // it ends is what it shows: each element of a chain has a frame of its own while the search goes on.
 #![tactic(auto)]
 
-ghost use Rattle.std.specs.Prelude.{◌≤◌, length};
+ghost use Rattle.std.specs.Prelude.{◌≡◌, ◌≤◌, length};
 
 use centralized_telescope::{Lent, Params, RetryCounter, Search, SearchCounter};
 use outcomes::say_outcome;
@@ -32,7 +32,9 @@ fn first_places(places: &[u32]) -> usize
 }
 
 // Where the data of 1,024 elements stops, of a byte each.
-fn ends_of_bytes() -> [u32; 1024] {
+fn ends_of_bytes() -> [u32; 1024]
+    ensures { 1024 ≡ length result }
+{
     let mut ends = [0u32; 1024];
     for (i, end) in ends.iter_mut().enumerate() {
         *end = i as u32 + 1;

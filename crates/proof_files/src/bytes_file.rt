@@ -25,7 +25,7 @@ pub fn read_bytes<R: Files + Print>(
     fetched
 }
 
-// Whether the file could be made, as a new one, and written whole; where not, a message says so.
-pub fn is_bytes_written<R: Files + Print>(rt: &R, name: &[u8], bytes: &[u8]) -> bool {
+// Whether the file could be made, as a new one, and written whole.
+pub fn is_bytes_written<R: Files>(rt: &R, name: &[u8], bytes: &[u8]) -> bool {
     opening::is_written(rt, name, |file| file.write_all(bytes))
 }

@@ -32,18 +32,9 @@ fn write_lines(out: &mut impl Write, counters: Counters, list: Lent) -> io::Resu
     Ok(())
 }
 
-// Whether the file could be made, as a new one, and written whole, which a message says.
-pub fn is_proof_written<R: Files + Print>(
-    rt: &R,
-    name: &[u8],
-    counters: Counters,
-    list: Lent,
-) -> bool {
-    let written = opening::is_written(rt, name, |file| write_lines(file, counters, list));
-    if written {
-        say_of_file(rt, name, "the proof is written");
-    }
-    written
+// Whether the file could be made, as a new one, and written whole.
+pub fn is_proof_written<R: Files>(rt: &R, name: &[u8], counters: Counters, list: Lent) -> bool {
+    opening::is_written(rt, name, |file| write_lines(file, counters, list))
 }
 
 // ---- Reading

@@ -4,7 +4,7 @@ ghost use Rattle.std.specs.Prelude.{◌≡◌, length};
 use crate::report::{say_proof, say_unread};
 use centralized_telescope::Lent;
 use outcomes::unless_refused;
-use proof_files::{Counters, FullRoom, first, is_taken, say_of_file};
+use proof_files::{Counters, FullRoom, first, is_taken, say_of_file, say_written};
 use std::rt::Files;
 use text::input::FetchError;
 
@@ -18,13 +18,13 @@ fn ticket_room() -> [u8; 1930752]
 
 // The ticket into its file.
 fn finish_ticket(rt: &(impl Files + Print), name: &[u8], blocks: usize, bytes: &[u8]) {
-    if proof_files::is_bytes_written(rt, name, bytes) {
-        say_of_file(
-            rt,
-            name,
-            format_args!("the ticket is written, blocks {blocks}"),
-        );
-    }
+    let written = proof_files::is_bytes_written(rt, name, bytes);
+    say_written(
+        rt,
+        name,
+        written,
+        format_args!("the ticket is written, blocks {blocks}"),
+    );
 }
 
 // The ticket of a proof that was read.
@@ -61,7 +61,8 @@ fn read_blocks(rt: &(impl Files + Print), name: &[u8], ticket: &[u8]) {
             };
             let list = room.lent(proof.elements, proof.bytes);
             say_proof(rt, counters, list);
-            proof_files::is_proof_written(rt, name, counters, list);
+            let written = proof_files::is_proof_written(rt, name, counters, list);
+            say_written(rt, name, written, "the proof is written");
         }
         Err(k) => say_unread(rt, k, ticket),
     }

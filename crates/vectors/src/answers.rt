@@ -47,15 +47,15 @@ impl Kind {
         }
     }
 
-    // What the library answers to a question of this kind.
-    fn ask(self, question: &[u8], list: Lent) -> Option<Said> {
+    // What the library answers to a question of this kind, into a lent text.
+    fn ask(self, question: &[u8], list: Lent, text: &mut Said) -> Option<()> {
         match self {
-            Kind::Uniform => ask::uniform(question),
-            Kind::Bernoulli => ask::bernoulli(question),
-            Kind::Small => ask::small(question),
-            Kind::Distinct => ask_list::distinct(question, list),
-            Kind::Prove => ask_list::prove(question, list),
-            Kind::Verify => ask_list::verify(question, list),
+            Kind::Uniform => ask::uniform(question, text),
+            Kind::Bernoulli => ask::bernoulli(question, text),
+            Kind::Small => ask::small(question, text),
+            Kind::Distinct => ask_list::distinct(question, list, text),
+            Kind::Prove => ask_list::prove(question, list, text),
+            Kind::Verify => ask_list::verify(question, list, text),
         }
     }
 
@@ -89,16 +89,16 @@ impl Kind {
 enum Fault {
     // it lacks its form, or is an element past the room in `are_equal`
     Malformed,
-    // the library answers this, and not what is stored
-    CameOut(Said),
+    // the library answers something else than what is stored
+    CameOut,
 }
 
-fn say_fault(rt: &impl Print, line: &[u8], fault: Fault) {
+fn say_fault(rt: &impl Print, line: &[u8], fault: Fault, said: &Said) {
     match fault {
         Fault::Malformed => {
             let _ = println!(rt; "not of the list's form");
         }
-        Fault::CameOut(said) => {
+        Fault::CameOut => {
             let _ = print!(rt; "came out as {said}, stored is ");
             if let Some((_, stored)) = parts(line) {
                 say(rt, stored);
@@ -114,21 +114,22 @@ fn parts(line: &[u8]) -> Option<(&[u8], &[u8])> {
     Some((before.strip_suffix(b" ")?, behind.strip_prefix(b"= ")?))
 }
 
-// The kind of a case whose stored answer comes out.
-fn run_case(line: &[u8], list: Lent) -> Result<Kind, Fault> {
+// The kind of a case whose stored answer comes out. What does is in the lent text then.
+fn run_case(line: &[u8], list: Lent, said: &mut Said) -> Result<Kind, Fault> {
     let (question, stored) = parts(line).ok_or(Fault::Malformed)?;
     let kind = Kind::of_word(words::first(question)).ok_or(Fault::Malformed)?;
-    let said = kind.ask(question, list).ok_or(Fault::Malformed)?;
+    kind.ask(question, list, said).ok_or(Fault::Malformed)?;
     if said.as_bytes() != stored {
-        return Err(Fault::CameOut(said));
+        return Err(Fault::CameOut);
     }
     Ok(kind)
 }
 
-// How far a list was run: the elements under way, how many cases of each kind came out, and whether a line was wrong.
+// How far a list was run: the elements under way, the last answer, how many cases of each kind came out, and whether a line was wrong.
 #[derive(Drop)]
 struct Progress<'a> {
     elements: ElementList<'a>,
+    said: Said,
     equal: [u64; 6],
     is_wrong: bool,
 }
@@ -149,7 +150,7 @@ impl Progress<'_> {
                 .add_line(element)
                 .map_err(|_| Fault::Malformed);
         }
-        let kind = run_case(line, self.elements.lent())? as usize;
+        let kind = run_case(line, self.elements.lent(), &mut self.said)? as usize;
         self.equal[kind] = self.equal[kind].saturating_add(1);
         Ok(())
     }
@@ -161,7 +162,7 @@ impl Progress<'_> {
             if !self.is_wrong {
                 let number = reader.number();
                 let _ = print!(rt; "{name} line {number}: ");
-                say_fault(rt, line, fault);
+                say_fault(rt, line, fault, &self.said);
             }
             self.is_wrong = true;
         }
@@ -187,6 +188,7 @@ pub fn are_equal(rt: &(impl Files + Print), name: &str) -> bool {
     let mut room = ListRoom::<16384, 512>::new();
     let mut progress = Progress {
         elements: room.list(),
+        said: Said::new(),
         equal: [0; 6],
         is_wrong: false,
     };

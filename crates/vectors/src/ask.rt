@@ -1,4 +1,4 @@
-// A stored question asked of the library; what it answers, as text. A question is a line up to its ` =`. None: it lacks its form.
+// A stored question asked of the library; what it answers, into a lent text. A question is a line up to its ` =`. None: it lacks its form.
 ghost use Rattle.std.specs.Prelude.{◌≡◌, if◌then◌else◌};
 ghost use Rattle.std.specs.Float.Ieee.{of_bits};
 ghost use Rattle.std.specs.Float.{binary64};
@@ -26,34 +26,34 @@ pub fn read_double(question: &[u8], n: usize) -> Option<f64>
 }
 
 // uniform H N
-pub fn uniform(question: &[u8]) -> Option<Said> {
+pub fn uniform(question: &[u8], text: &mut Said) -> Option<()> {
     let hash = hex::bytes(words::word(question, 1))?;
     let n = read_number(question, 2)?;
     if words::count(question) != 3 {
         return None;
     }
     match sampling::sample_uniform(hash, n) {
-        Ok(Some(value)) => said(format_args!("0 {value}")),
-        Ok(None) => said(1),
-        Err(refused) => said(u32::from(refused)),
+        Ok(Some(value)) => said(text, format_args!("0 {value}")),
+        Ok(None) => said(text, 1),
+        Err(refused) => said(text, u32::from(refused)),
     }
 }
 
 // bernoulli H Q: the converter makes X of q, and the sampler takes X.
-pub fn bernoulli(question: &[u8]) -> Option<Said> {
+pub fn bernoulli(question: &[u8], text: &mut Said) -> Option<()> {
     let hash = hex::bytes(words::word(question, 1))?;
     let q = read_double(question, 2)?;
     if words::count(question) != 3 {
         return None;
     }
     match sampling::threshold_of(q) {
-        Ok(x) => said(u8::from(sampling::sample_bernoulli(hash, x))),
-        Err(refused) => said(u32::from(refused)),
+        Ok(x) => said(text, u8::from(sampling::sample_bernoulli(hash, x))),
+        Err(refused) => said(text, u32::from(refused)),
     }
 }
 
 // The small case's settings: 0, every setting but set_size, and X.
-fn said_settings(s: SmallSettings) -> Option<Said> {
+fn said_settings(s: SmallSettings, text: &mut Said) -> Option<()> {
     let SmallSettings {
         proof_size,
         max_retries,
@@ -63,18 +63,21 @@ fn said_settings(s: SmallSettings) -> Option<Said> {
     } = s;
     let hi = x.hi;
     let lo = x.lo;
-    said(format_args!("0 {proof_size} {max_retries} {search_width} {dfs_bound} {hi:016x}{lo:016x}"))
+    said(
+        text,
+        format_args!("0 {proof_size} {max_retries} {search_width} {dfs_bound} {hi:016x}{lo:016x}"),
+    )
 }
 
 // small U C
-pub fn small(question: &[u8]) -> Option<Said> {
+pub fn small(question: &[u8], text: &mut Said) -> Option<()> {
     let u = read_number(question, 1)?;
     let c = read_double(question, 2)?;
     if words::count(question) != 3 {
         return None;
     }
     match centralized_telescope::param_small_case(u, c) {
-        Ok(s) => said_settings(s),
-        Err(k) => said(u32::from(k)),
+        Ok(s) => said_settings(s, text),
+        Err(k) => said(text, u32::from(k)),
     }
 }

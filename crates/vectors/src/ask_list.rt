@@ -13,13 +13,13 @@ use text::words;
 const MARK: u32 = 0xffff_ffff;
 
 // distinct
-pub fn distinct(question: &[u8], list: Lent) -> Option<Said> {
+pub fn distinct(question: &[u8], list: Lent, text: &mut Said) -> Option<()> {
     if words::count(question) != 1 {
         return None;
     }
     match centralized_telescope::check_distinct(list) {
-        Ok(is_distinct) => said(u8::from(is_distinct)),
-        Err(k) => said(u32::from(k)),
+        Ok(is_distinct) => said(text, u8::from(is_distinct)),
+        Err(k) => said(text, u32::from(k)),
     }
 }
 
@@ -78,7 +78,7 @@ fn places_of(answer: Result<Search, Refusal>, proof_size: u64) -> usize {
 }
 
 // prove SETTINGS. The workspace suffices for a set_size of 1,000, and has more places than any proof.
-pub fn prove(question: &[u8], list: Lent) -> Option<Said> {
+pub fn prove(question: &[u8], list: Lent, text: &mut Said) -> Option<()> {
     let settings = read_settings(question)?;
     if words::count(question) != 7 {
         return None;
@@ -86,20 +86,19 @@ pub fn prove(question: &[u8], list: Lent) -> Option<Said> {
     let params = match settings {
         Ok(params) => params,
         Err(refused) => {
-            return said(u32::from(refused));
+            return said(text, u32::from(refused));
         }
     };
     let mut places = [MARK; 1040];
     let mut table = [0u32; 3001];
     let answer = centralized_telescope::prove(params, list, &mut places, &mut table);
-    let mut text = Said::new();
-    write_numbers(&mut text, answer).ok()?;
-    write_places(&mut text, &places, places_of(answer, params.proof_size)).ok()?;
-    Some(text)
+    text.clear();
+    write_numbers(text, answer).ok()?;
+    write_places(text, &places, places_of(answer, params.proof_size)).ok()
 }
 
 // verify SETTINGS R S
-pub fn verify(question: &[u8], list: Lent) -> Option<Said> {
+pub fn verify(question: &[u8], list: Lent, text: &mut Said) -> Option<()> {
     let settings = read_settings(question)?;
     let retry = ask::read_number(question, 7)?;
     let search = ask::read_number(question, 8)?;
@@ -109,7 +108,7 @@ pub fn verify(question: &[u8], list: Lent) -> Option<Said> {
     let params = match settings {
         Ok(params) => params,
         Err(refused) => {
-            return said(u32::from(refused));
+            return said(text, u32::from(refused));
         }
     };
     let verdict = centralized_telescope::verify(
@@ -118,5 +117,5 @@ pub fn verify(question: &[u8], list: Lent) -> Option<Said> {
         SearchCounter(search),
         list,
     );
-    said(verdict_number(verdict))
+    said(text, verdict_number(verdict))
 }
