@@ -148,7 +148,7 @@ uint32_t alba_threshold(double q, uint64_t *out, size_t out_len);
  * Answers the first of these that it meets: ALBA_BAD_SET_SIZE; ALBA_BAD_LIMIT; ALBA_MALFORMED, if ends_len is no multiple of 4 or
  * indexes_len none of 8, if the counts differ, if a mark is over 1, or if an end is before the one before it or past data_len;
  * ALBA_TOO_LARGE; ALBA_INCORRECT_NUMBER_ELEMENTS; ALBA_INVALID_PARAMETERS; ALBA_INVALID_PROOF. Else ALBA_ACCEPTED.
- * It takes time in proportion to what it is lent. The archive's takes less than 3,000 bytes of stack: 2,284 at most were measured, whatever
+ * It takes time in proportion to what it is lent. The archive's takes less than 3,000 bytes of stack: 2,272 at most were measured, whatever
  * proof_size is (c/stack.c, with symbols bound before; a first call in which memcpy is still looked up took 4,920). What telescope.c takes on
  * a small machine stands in docs/C.md, under Its size; how long it takes at worst in SECURITY.md.
  */

@@ -19,8 +19,8 @@ use Rattle.centralized_telescope.specs.laws.TestLaws.{lt_or_le}
 abbrev pub order_of : AcceptedList → AcceptedList → ℕ → ℕ → Ordering
 order_of first second w v = rank_cmp (rank (element_in first) v) (rank (element_in second) w)
 
--- of sorted keys those that a search by halves has still to look at: each one in front stands before the key that is sought, each one behind
--- stands behind it
+-- of sorted keys those that a search by halves has still to look at: each one in front stands before the key that is sought, each one
+-- behind stands behind it
 pub record Seeking (first second : AcceptedList) (ws : List ℕ) (w low high : ℕ) : Type 0 where
   pub in_order : low ≤ high
   pub within : high ≤ length ws
@@ -54,14 +54,16 @@ module _ (first second : AcceptedList) (ws : List ℕ) (S : Sorted (element_in f
   count : length ws ≡ length first.ends.now
   count = key_count d (length first.ends.now) few ws S
 
-  found : (i : ℕ) → i < length ws → order_of first second (key_at f q) (get_or ws i 0) ≡ order.Equal → true ≡ some_of (same_element (f q)) (elements (held first))
+  found : (i : ℕ) → i < length ws → order_of first second (key_at f q) (get_or ws i 0) ≡ order.Equal
+      → true ≡ some_of (same_element (f q)) (elements (held first))
   found i h e =
       let k = key_held d (length first.ends.now) few ws S i (omega (arith, count)) in
       sym (stands (f q) (elements (held first)) k.0 (omega (arith, k.1, length_elements (held first) first.accepted))
       (sym (same_there d f k.0 q (omega (arith, k.1, few)) (omega (arith, few_too)) (rw k.2 at e))))
 
   -- each key stands before the place's or behind it
-  nowhere : ((x : ℕ) → x < length ws → order_of first second (key_at f q) (get_or ws x 0) ≡ order.Equal → ⊥) → false ≡ some_of (same_element (f q)) (elements (held first))
+  nowhere : ((x : ℕ) → x < length ws → order_of first second (key_at f q) (get_or ws x 0) ≡ order.Equal → ⊥)
+      → false ≡ some_of (same_element (f q)) (elements (held first))
   nowhere n =
       sym (stands_nowhere (f q) (elements (held first)) (λ p h e.
       let there : p < length first.ends.now = omega (arith, length_elements (held first) first.accepted) in
@@ -71,7 +73,8 @@ module _ (first second : AcceptedList) (ws : List ℕ) (S : Sorted (element_in f
 
   -- the keys rise as seen from the one that is sought
   rises : (x y : ℕ) → x ≤ y → y < length ws
-      → ordering_index (order_of first second (key_at f q) (get_or ws x 0)) ≤ ordering_index (order_of first second (key_at f q) (get_or ws y 0))
+      → ordering_index (order_of first second (key_at f q) (get_or ws x 0))
+      ≤ ordering_index (order_of first second (key_at f q) (get_or ws y 0))
   rises x y l h = searchable_from_sorted rank_total (rank d) ws (rank f (key_at f q)) S.ascending x y 0 l h
 
   module _ {low high : ℕ} (K : Seeking first second ws (key_at f q) low high) where
@@ -114,7 +117,8 @@ module _ (first second : AcceptedList) (ws : List ℕ) (S : Sorted (element_in f
   }
 
   module _ {low high : ℕ} (K : Seeking first second ws w low high) where
-    pub right_of : (m : ℕ) → low ≤ m → m < high → order_of first second w (get_or ws m 0) ≡ order.Less → Seeking first second ws w (m + 1) high
+    pub right_of : (m : ℕ) → low ≤ m → m < high → order_of first second w (get_or ws m 0) ≡ order.Less
+        → Seeking first second ws w (m + 1) high
     right_of m k h e = rw key (seek_right first second ws S q l (rw key at K) m k h (rw key at e))
 
     pub left_of : (m : ℕ) → low ≤ m → m < high → order_of first second w (get_or ws m 0) ≡ order.Greater → Seeking first second ws w low m

@@ -23,7 +23,7 @@ pub struct AcceptedList<'d, 'a> {
 }
 
 // An element of an accepted list: its own data, and its index if it has one.
-#[derive(Clone, Copy, PartialEq, Eq, PartialOrd, Ord)]
+#[derive(Clone, Copy)]
 pub struct Element<'d> {
     pub index: Option<u64>,
     pub data: &'d [u8],

@@ -23,9 +23,9 @@ use std::cmp::Ordering;
 
 // ---- Which of the second list's places are added
 
-// Whether the element at a place of the second list equals one of the first, whose keys are lent sorted. What is left of them is halved each
-// time. A loop of our own: the library's search looks at log n keys even if the first that it meets is the one, and the pool of a list with
-// few elements of another, or with one everywhere, would take so many times longer.
+// Whether the element at a place of the second list equals one of the first, whose keys are lent sorted. What is left of them is halved
+// each time. A loop of our own: the library's search looks at log n keys even if the first that it meets is the one, and the pool of a list
+// with few elements of another, or with one everywhere, would take so many times longer.
 fn stands_in(list: AcceptedList, keys: &[u64], list2: AcceptedList, place: usize) -> bool
     requires { Sorted (element_in list) (length list.ends.now) keys.now × (place < length list2.ends.now) }
     ensures { result ≡ some_of (same_element (element_in list2.entry place)) (elements (held list.entry)) }

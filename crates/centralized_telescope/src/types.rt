@@ -1,7 +1,8 @@
 // A lent list: whether it is accepted, and what is read of one place of it. All that is known of a lent list elsewhere comes from here.
 ghost use Rattle.std.specs.Prelude.{◌≡◌, ℕ, List, ◌<◌, ◌≤◌, IfOk, length, slice_index};
 ghost use Rattle.centralized_telescope.specs.core.Refusals.{answer_number};
-ghost use Rattle.centralized_telescope.specs.core.Elements.{mark_over, end_wrong, data_long, list_check, elements, element_at, index_of};
+ghost use Rattle.centralized_telescope.specs.core.Elements.{mark_over, end_wrong, data_long, list_check};
+ghost use Rattle.centralized_telescope.specs.core.Elements.{elements, element_at, index_of, max_data_bytes};
 ghost use Rattle.centralized_telescope.specs.core.LentLists.{lent};
 ghost use Rattle.centralized_telescope.specs.inner.Held.{held, element_read, option_of};
 ghost use Rattle.centralized_telescope.specs.inner.ListReading.{found_number, start_at};
@@ -104,8 +105,8 @@ pub fn accept<'d, 'a>(list: Lent<'d, 'a>) -> Result<AcceptedList<'d, 'a>, Refusa
     })
 }
 
-// ---- One place of an accepted list. The rest of the crate reads data, ends, marks and indexes by `element` alone, but for the export,
-// whose ends and indexes are bytes.
+// ---- One place of an accepted list. The rest of the crate reads data, ends, marks and indexes by these alone, but for the export, whose
+// ends and indexes are bytes.
 
 // Where the data of the element at a place starts: at the end before it, which `end_at` gives by its place.
 pub fn start_of<F: Fn(usize) -> usize>(place: usize, end_at: F) -> usize
@@ -136,16 +137,33 @@ impl<'d, 'a> AcceptedList<'d, 'a> {
         self.ends.len()
     }
 
-    // The element at a place: its data are a part of the lent data.
+    // The own data of the element at a place: a part of the lent data.
+    pub fn own_data(self, place: usize) -> &'d [u8]
+        requires { place < length self.ends.now }
+        ensures data { result.now ≡ (element_at (elements (held self.entry)) place).bytes }
+        ensures short { length result.now ≤ max_data_bytes }
+    {
+        let start = start_of(place, |i| wide(self.ends[i]));
+        let end = wide(self.ends[place]);
+        &self.data[start..end]
+    }
+
+    // The index of the element at a place. None of its data is looked for.
+    pub fn own_index(self, place: usize) -> Option<u64>
+        requires { place < length self.ends.now }
+        ensures { option_of result ≡ (element_at (elements (held self.entry)) place).index }
+    {
+        index_of(self.marks[place], self.indexes[place])
+    }
+
+    // The element at a place.
     pub fn element(self, place: usize) -> Element<'d>
         requires { place < length self.ends.now }
         ensures { element_read result ≡ element_at (elements (held self.entry)) place }
     {
-        let start = start_of(place, |i| wide(self.ends[i]));
-        let end = wide(self.ends[place]);
         Element {
-            data: &self.data[start..end],
-            index: index_of(self.marks[place], self.indexes[place]),
+            data: self.own_data(place),
+            index: self.own_index(place),
         }
     }
 }

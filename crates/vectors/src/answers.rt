@@ -108,7 +108,8 @@ fn say_fault(rt: &impl Print, line: &[u8], fault: Fault, said: &Said) {
     }
 }
 
-// A case's question and its stored answer, which ` = ` parts. No question has a `=`.
+// A case's question and its stored answer, which ` = ` parts. No question has a `=`. Called, as the questions are (ask.rt).
+#[inline(never)]
 fn parts(line: &[u8]) -> Option<(&[u8], &[u8])> {
     let (before, behind) = line.split_at(line.iter().position(|byte| *byte == b'=')?);
     Some((before.strip_suffix(b" ")?, behind.strip_prefix(b"= ")?))

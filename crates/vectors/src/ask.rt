@@ -1,4 +1,6 @@
 // A stored question asked of the library; what it answers, into a lent text. A question is a line up to its ` =`. None: it lacks its form.
+// Each kind of question stands in a function that is always called. Within one for all, each line would clear the room that `prove` alone
+// takes, and loops over its bytes would count in memory.
 ghost use Rattle.std.specs.Prelude.{◌≡◌, if◌then◌else◌};
 ghost use Rattle.std.specs.Float.Ieee.{of_bits};
 ghost use Rattle.std.specs.Float.{binary64};
@@ -8,6 +10,7 @@ ghost use Rattle.text.specs.Words.{first_word, behind_words};
 
 use crate::said::{Said, said};
 use centralized_telescope::SmallSettings;
+use std::fmt::Write;
 use text::{double, hex, words};
 
 pub fn read_number(question: &[u8], n: usize) -> Option<u64>
@@ -25,7 +28,13 @@ pub fn read_double(question: &[u8], n: usize) -> Option<f64>
     hex::sixteen_digits(words::word(question, n)).map(double::of_bits)
 }
 
+// An answer that is a refusal's number.
+pub fn said_refused(text: &mut Said, refused: impl Into<u32>) -> Option<()> {
+    said(text, &[u64::from(refused.into())])
+}
+
 // uniform H N
+#[inline(never)]
 pub fn uniform(question: &[u8], text: &mut Said) -> Option<()> {
     let hash = hex::bytes(words::word(question, 1))?;
     let n = read_number(question, 2)?;
@@ -33,13 +42,14 @@ pub fn uniform(question: &[u8], text: &mut Said) -> Option<()> {
         return None;
     }
     match sampling::sample_uniform(hash, n) {
-        Ok(Some(value)) => said(text, format_args!("0 {value}")),
-        Ok(None) => said(text, 1),
-        Err(refused) => said(text, u32::from(refused)),
+        Ok(Some(value)) => said(text, &[0, value]),
+        Ok(None) => said(text, &[1]),
+        Err(refused) => said_refused(text, refused),
     }
 }
 
 // bernoulli H Q: the converter makes X of q, and the sampler takes X.
+#[inline(never)]
 pub fn bernoulli(question: &[u8], text: &mut Said) -> Option<()> {
     let hash = hex::bytes(words::word(question, 1))?;
     let q = read_double(question, 2)?;
@@ -47,8 +57,8 @@ pub fn bernoulli(question: &[u8], text: &mut Said) -> Option<()> {
         return None;
     }
     match sampling::threshold_of(q) {
-        Ok(x) => said(text, u8::from(sampling::sample_bernoulli(hash, x))),
-        Err(refused) => said(text, u32::from(refused)),
+        Ok(x) => said(text, &[u64::from(sampling::sample_bernoulli(hash, x))]),
+        Err(refused) => said_refused(text, refused),
     }
 }
 
@@ -63,13 +73,12 @@ fn said_settings(s: SmallSettings, text: &mut Said) -> Option<()> {
     } = s;
     let hi = x.hi;
     let lo = x.lo;
-    said(
-        text,
-        format_args!("0 {proof_size} {max_retries} {search_width} {dfs_bound} {hi:016x}{lo:016x}"),
-    )
+    said(text, &[0, proof_size, max_retries, search_width, dfs_bound])?;
+    write!(text, " {hi:016x}{lo:016x}").ok()
 }
 
 // small U C
+#[inline(never)]
 pub fn small(question: &[u8], text: &mut Said) -> Option<()> {
     let u = read_number(question, 1)?;
     let c = read_double(question, 2)?;
@@ -78,6 +87,6 @@ pub fn small(question: &[u8], text: &mut Said) -> Option<()> {
     }
     match centralized_telescope::param_small_case(u, c) {
         Ok(s) => said_settings(s, text),
-        Err(k) => said(text, u32::from(k)),
+        Err(k) => said_refused(text, k),
     }
 }

@@ -1,25 +1,25 @@
-// The questions that ask of the list of elements above them.
+// The questions that ask of the list of elements above them. They are called, as those of ask.rt are.
 use crate::ask;
-use crate::said::{Said, said};
+use crate::ask::said_refused;
+use crate::said::{Said, put_number, said};
 use centralized_telescope::{
     Lent, Params, Refusal, RetryCounter, Search, SearchCounter, proof_search_number, verdict_number,
 };
 use sampling::NotProbability;
-use std::fmt;
-use std::fmt::Write;
 use text::words;
 
 // Stands in each place before a search: no list has so many elements.
 const MARK: u32 = 0xffff_ffff;
 
 // distinct
+#[inline(never)]
 pub fn distinct(question: &[u8], list: Lent, text: &mut Said) -> Option<()> {
     if words::count(question) != 1 {
         return None;
     }
     match centralized_telescope::check_distinct(list) {
-        Ok(is_distinct) => said(text, u8::from(is_distinct)),
-        Err(k) => said(text, u32::from(k)),
+        Ok(is_distinct) => said(text, &[u64::from(is_distinct)]),
+        Err(k) => said_refused(text, k),
     }
 }
 
@@ -43,30 +43,29 @@ fn read_settings(question: &[u8]) -> Option<Result<Params, NotProbability>> {
     Some(settings)
 }
 
-// The answer's numbers that stand before its places.
-fn write_numbers(out: &mut impl Write, answer: Result<Search, Refusal>) -> fmt::Result {
-    let number = proof_search_number(answer);
-    write!(out, "{number}")?;
+// An answer's numbers, without its places.
+fn said_numbers(text: &mut Said, answer: Result<Search, Refusal>) -> Option<()> {
+    let number = u64::from(proof_search_number(answer));
     match answer {
         Ok(Search::Found(RetryCounter(retry), SearchCounter(search), count)) => {
-            write!(out, " {retry} {search} {count}")
+            said(text, &[number, retry, search, count])
         }
-        Ok(Search::NotFoundInBounds(count)) => write!(out, " {count}"),
-        Ok(Search::NotFound(count)) => write!(out, " {count}"),
-        Err(_) => Ok(()),
+        Ok(Search::NotFoundInBounds(count)) => said(text, &[number, count]),
+        Ok(Search::NotFound(count)) => said(text, &[number, count]),
+        Err(_) => said(text, &[number]),
     }
 }
 
-// The places of a proof of `found` elements and, where a place past them was written, a word that no stored answer has.
-fn write_places(out: &mut impl Write, places: &[u32], found: usize) -> fmt::Result {
+// Puts the places of a proof of `found` elements and, where a place past them was written, a word that no stored answer has.
+fn put_places(text: &mut Said, places: &[u32], found: usize) -> Option<()> {
     let (proof, rest) = places.split_at(found.min(places.len()));
     for place in proof {
-        write!(out, " {place}")?;
+        put_number(text, *place)?;
     }
     if rest.iter().any(|place| *place != MARK) {
-        write!(out, " more-places-written")?;
+        text.try_push_str(" more-places-written").ok()?;
     }
-    Ok(())
+    Some(())
 }
 
 // How many places a search writes.
@@ -78,6 +77,7 @@ fn places_of(answer: Result<Search, Refusal>, proof_size: u64) -> usize {
 }
 
 // prove SETTINGS. The workspace suffices for a set_size of 1,000, and has more places than any proof.
+#[inline(never)]
 pub fn prove(question: &[u8], list: Lent, text: &mut Said) -> Option<()> {
     let settings = read_settings(question)?;
     if words::count(question) != 7 {
@@ -86,18 +86,18 @@ pub fn prove(question: &[u8], list: Lent, text: &mut Said) -> Option<()> {
     let params = match settings {
         Ok(params) => params,
         Err(refused) => {
-            return said(text, u32::from(refused));
+            return said_refused(text, refused);
         }
     };
     let mut places = [MARK; 1040];
     let mut table = [0u32; 3001];
     let answer = centralized_telescope::prove(params, list, &mut places, &mut table);
-    text.clear();
-    write_numbers(text, answer).ok()?;
-    write_places(text, &places, places_of(answer, params.proof_size)).ok()
+    said_numbers(text, answer)?;
+    put_places(text, &places, places_of(answer, params.proof_size))
 }
 
 // verify SETTINGS R S
+#[inline(never)]
 pub fn verify(question: &[u8], list: Lent, text: &mut Said) -> Option<()> {
     let settings = read_settings(question)?;
     let retry = ask::read_number(question, 7)?;
@@ -108,7 +108,7 @@ pub fn verify(question: &[u8], list: Lent, text: &mut Said) -> Option<()> {
     let params = match settings {
         Ok(params) => params,
         Err(refused) => {
-            return said(text, u32::from(refused));
+            return said_refused(text, refused);
         }
     };
     let verdict = centralized_telescope::verify(
@@ -117,5 +117,5 @@ pub fn verify(question: &[u8], list: Lent, text: &mut Said) -> Option<()> {
         SearchCounter(search),
         list,
     );
-    said(text, verdict_number(verdict))
+    said(text, &[u64::from(verdict_number(verdict))])
 }

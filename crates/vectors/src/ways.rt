@@ -30,8 +30,8 @@ fn cuts_by(number: usize, len: usize) -> [usize; 3]
     [up_to(x / 11, b), b, c]
 }
 
-// The cuts of a way, of which there are seven. A string that holds all, before and after empty ones; quarters; single bytes; the edges of the
-// first block; whole blocks; and cuts that vary.
+// The cuts of a way, of which there are seven. A string that holds all, before and after empty ones; quarters; single bytes; the edges of
+// the first block; whole blocks; and cuts that vary.
 fn cuts_of(way: usize, number: usize, len: usize) -> [usize; 3]
     ensures { (slice_index result 0 ≤ slice_index result 1) × (slice_index result 1 ≤ slice_index result 2) × (slice_index result 2 ≤ len) }
 {
@@ -48,7 +48,8 @@ fn cuts_of(way: usize, number: usize, len: usize) -> [usize; 3]
 
 // The hash of a message that is cut at these three places into four strings.
 fn hash_cut(message: &[u8], cuts: [usize; 3]) -> Result<[u8; 32], TooLong>
-    requires { (slice_index cuts 0 ≤ slice_index cuts 1) × (slice_index cuts 1 ≤ slice_index cuts 2) × (slice_index cuts 2 ≤ length message.now) }
+    requires { (slice_index cuts 0 ≤ slice_index cuts 1) × (slice_index cuts 1 ≤ slice_index cuts 2)
+        × (slice_index cuts 2 ≤ length message.now) }
 {
     let [a, b, c] = cuts;
     sha256(&message[..a], &message[a..b], &message[b..c], &message[c..])
